@@ -1,2 +1,2 @@
 pub mod Picked
-pub mod Only
+pub mod Answering

@@ -1,0 +1,4 @@
+pub mod Order
+pub mod Distance
+pub mod Answers
+pub mod Inner

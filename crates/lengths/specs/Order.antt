@@ -1,0 +1,47 @@
+-- Document 01, "Lengths": a length is a pair, straight steps and diagonal steps. It stands for straight + diagonal × √2.
+-- Assumes nothing.
+use mathlib.Core.Bool.{Bool}
+use Prim.Native.Nat.{ℕ, _+_, _-_, _*_, _≤_, _<_}
+use lib.Dec.{ltb}
+use Rattle.lengths.specs.declared.Length.{Length}
+
+abbrev pub zeroLength : Length
+zeroLength = record { straight = 0; diagonal = 0 }
+
+-- one length after the other
+abbrev pub _⊕_ : Length → Length → Length
+_⊕_ a b = record { straight = a .straight + b .straight; diagonal = a .diagonal + b .diagonal }
+
+-- how many steps a length counts
+abbrev pub steps : Length → ℕ
+steps a = a .straight + a .diagonal
+
+-- what a has over b: p² + 2 × q², with p and q the differences of the parts where a's are above b's, and 0 where they are not
+unfoldable pub over : Length → Length → ℕ
+over a b = (a .straight - b .straight) * (a .straight - b .straight) + 2 * ((a .diagonal - b .diagonal) * (a .diagonal - b .diagonal))
+
+-- a is not longer than b
+pub record _⊑_ (a b : Length) : Type 0 where
+  pub le : over a b ≤ over b a
+
+-- a is shorter than b
+pub record _⊏_ (a b : Length) : Type 0 where
+  pub lt : over a b < over b a
+
+infixl 60 _⊕_
+infix 50 _⊑_
+infix 50 _⊏_
+-- document 01's rule for p + q√2 < 0, with p and q the differences of the parts: by the common sign, or by comparing p² with 2 × q².
+-- That it is the order above is proved in proofs/Rule
+pub data Rule (a b : Length) : Type 0 where
+  common : a .straight ≤ b .straight → a .diagonal ≤ b .diagonal → steps a < steps b → Rule a b
+  fewer-diagonal :
+      b .straight ≤ a .straight → a .diagonal ≤ b .diagonal
+      → (a .straight - b .straight) * (a .straight - b .straight) < 2 * ((b .diagonal - a .diagonal) * (b .diagonal - a .diagonal)) → Rule a b
+  fewer-straight :
+      a .straight ≤ b .straight → b .diagonal ≤ a .diagonal
+      → 2 * ((a .diagonal - b .diagonal) * (a .diagonal - b .diagonal)) < (b .straight - a .straight) * (b .straight - a .straight) → Rule a b
+
+-- shorter, as a test
+abbrev pub shorter : Length → Length → Bool
+shorter a b = ltb (over a b) (over b a)
