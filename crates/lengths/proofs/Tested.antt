@@ -5,7 +5,7 @@ use mathlib.Core.Bool.{Bool, true, false}
 use Prim.Native.Nat.{ℕ, _≤_}
 use native.Mathlib.Omega.{arith}
 use lib.Dec.{ltb}
-use borrow.Author.Tests.{ltb-false}
+use borrow.Author.Tests.{ltb-false, le-ltb}
 use Rattle.given.specs.Given.{pick, either}
 use Rattle.given.proofs.Picked.{pick-else, pick-then}
 use Rattle.lengths.specs.declared.Length.{Length}
@@ -17,6 +17,17 @@ use Rattle.lengths.specs.Inner.{partsOf, sizeOf, Within}
 both-false : (a b : Bool) → either a b ≡ false → (a ≡ false) × (b ≡ false)
 both-false true b e = absurd (let z : _≡_ {A = ℕ} 0 1 = cc in omega arith)
 both-false false b e = (refl, e)
+
+-- the test of the parts, and their limits
+pub small-parts : (l : Length) → partAbove l ≡ false → Within l
+unfolding partAbove
+small-parts l t =
+    let (s, d) = both-false (ltb 16383 (l .straight)) (ltb 16383 (l .diagonal)) t in
+    record { straight = ltb-false 16383 (l .straight) s; diagonal = ltb-false 16383 (l .diagonal) d }
+
+pub parts-small : (l : Length) → Within l → partAbove l ≡ false
+unfolding partAbove
+parts-small l w = rw (le-ltb 16383 (l .straight) (w .straight), le-ltb 16383 (l .diagonal) (w .diagonal))
 
 apart : {l : Length} → parts.Above ≡ parts.Within l → ⊥
 apart e = let z : _≡_ {A = ℕ} 0 1 = cc in omega arith
@@ -32,11 +43,10 @@ pub record Passed (l k : Length) : Type 0 where
   pub within : Within l
 
 pub parts-within : (l k : Length) → partsOf l ≡ parts.Within k → Passed l k
-unfolding partsOf partAbove
+unfolding partsOf
 parts-within l k e =
     let (t, f) = pick-else (partAbove l) parts.Above (parts.Within l) (parts.Within k) e apart in
-    let (s, d) = both-false (ltb 16383 (l .straight)) (ltb 16383 (l .diagonal)) t in
-    record { same = cc; test = t; within = record { straight = ltb-false 16383 (l .straight) s; diagonal = ltb-false 16383 (l .diagonal) d } }
+    record { same = cc; test = t; within = small-parts l t }
 
 pub size-outside : (n : ℕ) → sizeOf n ≡ size.Outside → sizeOutside n ≡ true
 unfolding sizeOf

@@ -1,0 +1,21 @@
+-- `text::put_field` meets its contract: the room that it asks for is enough for every number.
+-- Assumes nothing.
+use borrow.Author.Needs.{needs}
+use native.Mathlib.Omega.{arith}
+use Rattle.text.proofs.Fields.{number-fits}
+use Rattle.text.proofs.put_field.Statement.{statement}
+use Rattle.text.proofs.put_field.Tie as tie
+
+write-field-requires : tie.Need-write-field-requires
+write-field-requires c κs = omega (arith, number-fits (c .before .before .args .n) (search needs))
+
+same-length : tie.Need-same-length
+same-length c = search needs
+
+returns : tie.Need-returns
+returns c =
+    let start = c .before .before .before .before .before in
+    (c .before .before .write-field .ensures, omega (arith, number-fits (start .args .n) (search needs)))
+
+pub put-field-spec : {M : Type 1} → statement M
+put-field-spec = tie.close (tie.spec write-field-requires same-length returns)
