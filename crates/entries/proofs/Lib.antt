@@ -1,0 +1,4 @@
+pub mod Neighbours
+pub mod Best
+pub mod Packing
+pub mod Judging

@@ -1,0 +1,30 @@
+-- Document 01, "Table": what the neighbours make a cell, and which cell the check names.
+-- Assumes nothing.
+use mathlib.Core.Path.{_≡_}
+use mathlib.Core.Bool.{false}
+use mathlib.Core.List.{List}
+use Prim.Native.Nat.{ℕ}
+use lib.ListN.{getD}
+use Rattle.lengths.specs.declared.Length.{Length}
+use Rattle.lengths.specs.Order.{zeroLength, _⊕_, _⊑_}
+use Rattle.floor.specs.Way.{Graph}
+use Rattle.entries.specs.Entry.{Entry, mark, long, pack, malformed, entryAt}
+
+-- the least of neighbour's entry plus the step over the permitted steps, neighbours that say nothing left out; with none remaining, the mark
+abbrev pub Least : (G : Graph) → (ℕ → Entry) → ℕ → Entry → Type 0
+Least G T x mark = (h y : ℕ) → G .Step h x y → T y ≡ mark
+Least G T x (long l) =
+    ((h : ℕ) × (y : ℕ) × (m : Length) × G .Step h x y × (T y ≡ long m) × (l ≡ m ⊕ G .weight h))
+    × ((h y : ℕ) (m : Length) → G .Step h x y → T y ≡ long m → l ⊑ m ⊕ G .weight h)
+
+-- the goal, (0, 0); any other cell, the least. A blocked cell has no permitted step, so it is made the mark
+pub record Made (G : Graph) (Goal : ℕ → Type 0) (T : ℕ → Entry) (x : ℕ) (e : Entry) : Type 0 where
+  pub at-goal : Goal x → e ≡ long zeroLength
+  pub elsewhere : ¬ Goal x → Least G T x e
+
+-- the entry of cell x is not malformed, and is what its neighbours make it
+pub record Right (G : Graph) (Goal : ℕ → Type 0) (t : List ℕ) (x : ℕ) : Type 0 where
+  pub formed : malformed (getD t x 4294967295) ≡ false
+  pub what : Entry
+  pub made : Made G Goal (entryAt t) x what
+  pub same : getD t x 4294967295 ≡ pack what

@@ -1,0 +1,46 @@
+-- Document 01, "Floor": the map, its cells, and which of them are open.
+-- Assumes nothing.
+use mathlib.Core.Bool.{Bool, true, false, not}
+use mathlib.Core.List.{List}
+use Prim.Native.Nat.{ℕ, zero, suc, _+_, _*_, _/_, _%_, _^_}
+use lib.Dec.{T, ltb, eqb}
+use lib.ListN.{getD}
+
+-- a floor's width and height, and the bytes of its map
+pub record Map : Type 0 where
+  pub width : ℕ
+  pub height : ℕ
+  pub bytes : List ℕ
+
+abbrev pub mapOf : ℕ → ℕ → List ℕ → Map
+mapOf width height bytes = record { width = width; height = height; bytes = bytes }
+
+-- a map row takes width divided by 8, rounded up, bytes
+abbrev pub bytesPerRow : ℕ → ℕ
+bytesPerRow width = (width + 7) / 8
+
+-- in each byte bit 0, the least, is the leftmost of its eight cells
+abbrev pub bit : ℕ → ℕ → ℕ
+bit k byte = byte / 2 ^ k % 2
+
+-- a set bit is a blocked cell
+unfoldable pub blocked : Map → ℕ → ℕ → Bool
+blocked m column row = eqb (bit (column % 8) (getD (m .bytes) (row * bytesPerRow (m .width) + column / 8) 0)) 1
+
+abbrev pub both : Bool → Bool → Bool
+both true b = b
+both false b = false
+
+-- open: on the floor, that is below width and height, and not blocked
+unfoldable pub open? : Map → ℕ → ℕ → Bool
+open? m column row = both (ltb column (m .width)) (both (ltb row (m .height)) (not (blocked m column row)))
+
+abbrev pub Open : Map → ℕ → ℕ → Type 0
+Open m column row = T (open? m column row)
+
+-- the cell number is row × width + column
+abbrev pub cellOf : Map → ℕ → ℕ → ℕ
+cellOf m column row = row * m .width + column
+
+abbrev pub cells : Map → ℕ
+cells m = m .height * m .width
