@@ -17,3 +17,4 @@ pub mod Stepping
 pub mod Tested
 pub mod Unique
 pub mod WaysOut
+pub mod Called

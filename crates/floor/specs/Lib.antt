@@ -6,3 +6,4 @@ pub mod Step
 pub mod Room
 pub mod Answers
 pub mod Inner
+pub mod Calls

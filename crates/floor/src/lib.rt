@@ -4,6 +4,7 @@ ghost use Rattle.floor.specs.Floor.{mapOf};
 ghost use Rattle.floor.specs.Answers.{acceptedGives, Accepts, roomedGives, Rooms};
 ghost use Rattle.floor.specs.Inner.{roomRefusal};
 
+pub mod calls;
 mod growth;
 pub mod steps;
 pub mod tests;
@@ -30,6 +31,24 @@ pub enum Test {
 pub enum Place {
     On(usize),
     Off,
+}
+
+// What the tests of a call to a goal answer: the goal's cell, or the refusal's number.
+pub enum ToGoal {
+    Goal(usize),
+    Refused(u8),
+}
+
+// The cells of start and goal.
+pub struct Ends {
+    pub start: usize,
+    pub goal: usize,
+}
+
+// What the tests of a call for a route answer: the cells of start and goal, or the refusal's number.
+pub enum ToEnds {
+    Ends(Ends),
+    Refused(u8),
 }
 
 // Column and row change of a heading, each plus one.

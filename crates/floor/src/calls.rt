@@ -1,0 +1,92 @@
+// The tests of calls that take a table: to a goal, and from a start to a goal.
+ghost use mathlib.Core.Path.{_≡_};
+ghost use Rattle.floor.specs.Floor.{mapOf};
+ghost use Rattle.floor.specs.Calls.{spotOf, goalRefusal, endsRefusal, TestsGoal, TestsEnds};
+use crate::Accepted;
+use crate::Ends;
+use crate::Place;
+use crate::Test;
+use crate::ToEnds;
+use crate::ToGoal;
+
+// A floor's refusal, as that of a call to a goal.
+fn goal_refusal(a: Accepted) -> ToGoal
+    ensures { λ r. ⌜ r ≡ goalRefusal a ⌝ }
+{
+    match a {
+        Accepted::Floor(_) => ToGoal::Refused(0),
+        Accepted::Refused(n) => ToGoal::Refused(n),
+    }
+}
+
+// The tests of filling and checking: 1, 2, 3, 4, 6, 8, in this order.
+pub fn test_goal(
+    width: usize,
+    height: usize,
+    map: &[u8],
+    goal_column: usize,
+    goal_row: usize,
+    entries: usize,
+) -> ToGoal
+    ensures { λ r. ⌜ TestsGoal (mapOf width height (now (map .entry))) (spotOf «goal_column» «goal_row») entries r ⌝ }
+{
+    let accepted = crate::accept(width, height, map);
+    let Accepted::Floor(_) = accepted else {
+        return goal_refusal(accepted);
+    };
+    let Test::Passed = crate::tests::test_table(width, height, entries) else {
+        return ToGoal::Refused(4);
+    };
+    let Place::On(goal) = crate::tests::test_place(width, height, goal_column, goal_row) else {
+        return ToGoal::Refused(6);
+    };
+    let Test::Passed = crate::tests::test_open(width, height, map, goal_column, goal_row) else {
+        return ToGoal::Refused(8);
+    };
+    ToGoal::Goal(goal)
+}
+
+// A floor's refusal, as that of a call for a route.
+fn ends_refusal(a: Accepted) -> ToEnds
+    ensures { λ r. ⌜ r ≡ endsRefusal a ⌝ }
+{
+    match a {
+        Accepted::Floor(_) => ToEnds::Refused(0),
+        Accepted::Refused(n) => ToEnds::Refused(n),
+    }
+}
+
+// The tests of a call for a route: 1 to 8 as numbered.
+pub fn test_ends(
+    width: usize,
+    height: usize,
+    map: &[u8],
+    start_column: usize,
+    start_row: usize,
+    goal_column: usize,
+    goal_row: usize,
+    entries: usize,
+) -> ToEnds
+    ensures { λ r. ⌜ TestsEnds (mapOf width height (now (map .entry))) (spotOf «start_column» «start_row») (spotOf «goal_column» «goal_row») entries r ⌝ }
+{
+    let accepted = crate::accept(width, height, map);
+    let Accepted::Floor(_) = accepted else {
+        return ends_refusal(accepted);
+    };
+    let Test::Passed = crate::tests::test_table(width, height, entries) else {
+        return ToEnds::Refused(4);
+    };
+    let Place::On(start) = crate::tests::test_place(width, height, start_column, start_row) else {
+        return ToEnds::Refused(5);
+    };
+    let Place::On(goal) = crate::tests::test_place(width, height, goal_column, goal_row) else {
+        return ToEnds::Refused(6);
+    };
+    let Test::Passed = crate::tests::test_open(width, height, map, start_column, start_row) else {
+        return ToEnds::Refused(7);
+    };
+    let Test::Passed = crate::tests::test_open(width, height, map, goal_column, goal_row) else {
+        return ToEnds::Refused(8);
+    };
+    ToEnds::Ends(Ends { start, goal })
+}

@@ -1,0 +1,14 @@
+pub mod Numbers
+pub mod Joined
+pub mod Chain
+pub mod Queries
+pub mod Places
+pub mod Answers
+pub mod Total
+pub mod Only
+pub mod Ways
+pub mod Counting
+pub mod Outcomes
+pub mod Learnt
+pub mod Unique
+pub mod Worked

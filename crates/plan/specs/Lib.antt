@@ -1,0 +1,5 @@
+pub mod Records
+pub mod Sound
+pub mod Break
+pub mod Reads
+pub mod Steps
