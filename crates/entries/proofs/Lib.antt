@@ -2,3 +2,4 @@ pub mod Neighbours
 pub mod Best
 pub mod Packing
 pub mod Judging
+pub mod OneTable

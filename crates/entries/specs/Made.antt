@@ -3,7 +3,7 @@
 use mathlib.Core.Path.{_≡_}
 use mathlib.Core.Bool.{false}
 use mathlib.Core.List.{List}
-use Prim.Native.Nat.{ℕ}
+use Prim.Native.Nat.{ℕ, _≤_, _<_}
 use lib.ListN.{getD}
 use Rattle.lengths.specs.declared.Length.{Length}
 use Rattle.lengths.specs.Order.{zeroLength, _⊕_, _⊑_}
@@ -28,3 +28,9 @@ pub record Right (G : Graph) (Goal : ℕ → Type 0) (t : List ℕ) (x : ℕ) : 
   pub what : Entry
   pub made : Made G Goal (entryAt t) x what
   pub same : getD t x 4294967295 ≡ pack what
+
+-- the check names the lowest cell number whose entry differs: r is the lowest number below n that is not right, or n where all are right
+pub record Judged (Right : ℕ → Type 0) (n r : ℕ) : Type 0 where
+  pub within : r ≤ n
+  pub before : (y : ℕ) → y < r → Right y
+  pub wrong : r < n → ¬ Right r

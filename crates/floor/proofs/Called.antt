@@ -1,12 +1,11 @@
 -- What each way out of the tests of a call shows.
 -- Assumes nothing.
-use mathlib.Core.Path.{_≡_, refl, sym, _∙_, ap, subst}
+use mathlib.Core.Path.{_≡_, refl, sym, _∙_, ap, subst, subst₂}
 use mathlib.Core.Bool.{Bool, true, false}
 use mathlib.Core.List.{List, [], _∷_}
-use Prim.Native.Nat.{ℕ, _*_, _+_, _<_}
+use Prim.Native.Nat.{ℕ, _*_, _+_, _/_, _%_, _<_}
 use native.Mathlib.Omega.{arith}
-use lib.Dec.{T, ltb}
-use lib.ListN.{length}
+use lib.Arith.{digits-lt}
 use borrow.Author.Tests.{lt-ltb, eqb-true, not-false}
 use Rattle.given.specs.Given.{pick, firstOf}
 use Rattle.given.proofs.Picked.{pick-else}
@@ -21,8 +20,10 @@ use Rattle.floor.specs.declared.ToEnds.{ToEnds}
 use Rattle.floor.specs.Floor.{Map, Open, open?, blocked, both, cells}
 use Rattle.floor.specs.Refusals.{Spot, offFloor, wrongTable, floorRefused}
 use Rattle.floor.specs.Answers.{acceptedGives, Accepts}
-use Rattle.floor.specs.Inner.{Sound, placeOf}
+use Rattle.floor.specs.Inner.{Sound, Ready, placeOf}
 use Rattle.floor.specs.Calls.{spotOf, spotCell, asks, tableRefused, routeRefused, Standing, Fitting, Refuses, ReadyGoal, TestsGoal, ReadyEnds, TestsEnds, goalRefusal, endsRefusal}
+use Rattle.floor.proofs.Grid.{cell, cell-column, cell-row}
+use Rattle.floor.proofs.Leads.{floor}
 use Rattle.floor.proofs.Tested.{accepted, floor-first, floor-passed, refusal-given, Placed, place-on}
 
 -- a cell on the floor that is not blocked is open
@@ -54,6 +55,17 @@ stands m column row x e b =
 pub table-fits : (m : Map) (entries : ℕ) → Sound m → wrongTable (m .width) (m .height) entries ≡ false → Fitting m entries
 unfolding wrongTable
 table-fits m entries s e = record { sound = s; size = eqb-true entries (cells m) (not-false _ e) }
+
+-- a place that passed its tests, on a floor that did
+pub standing-inside : (m : Map) (s : Spot) (cell : ℕ) → Standing m s cell → cell < cells m
+standing-inside m s cell p = subst (λ (n : ℕ). n < cells m) (sym (p .at)) (digits-lt (p .row-on) (p .column-on))
+
+pub ready : (m : Map) (s : Spot) (entries x : ℕ) → Fitting m entries → Standing m s x → Ready m x entries
+unfolding cell
+ready m s entries x f p =
+    let c : x % m .width ≡ s .column = ap (λ (n : ℕ). n % m .width) (p .at) ∙ cell-column (floor m) (s .column) (s .row) (p .column-on) in
+    let r : x / m .width ≡ s .row = ap (λ (n : ℕ). n / m .width) (p .at) ∙ cell-row (floor m) (s .column) (s .row) (p .column-on) in
+    record { sound = f .sound; inside = standing-inside m s x p; free = subst₂ (Open m) (sym c) (sym r) (p .free); size = f .size }
 
 module _ (m : Map) (goal : Spot) (entries : ℕ) where
   pub goal-floor : (a : Accepted) (n : ℕ) → Accepts m (acceptedGives a) → a ≡ accepted.Refused n → (r : ToGoal) → r ≡ goalRefusal a → TestsGoal m goal entries r

@@ -2,30 +2,33 @@
 -- Assumes nothing.
 use mathlib.Core.Path.{_≡_, refl}
 use mathlib.Core.List.{map}
-use Prim.Native.Nat.{ℕ, suc, _≤_, _<_}
-use lib.Dec.{leb, leb→le}
-use lib.IntN.{ℤ, pos, negsuc}
+use Prim.Native.Nat.{ℕ, _≤_, _<_}
+use borrow.Author.Tests.{leb-true}
+use lib.Dec.{leb}
+use lib.IntN.{pos, _+ℤ_}
 use Rattle.floor.specs.declared.Change.{Change}
+use Rattle.floor.specs.Floor.{both}
 use Rattle.floor.specs.Heading.{Signed, headings, changes, changeOf}
 use Rattle.floor.proofs.Entries.{entry}
+use Rattle.floor.proofs.Joined.{both-true}
 
--- one more than a change, which is −1, 0 or +1
-abbrev pub plusOne : ℤ → ℕ
-plusOne (pos n) = suc n
-plusOne (negsuc n) = n
+-- one added to each change
+abbrev pub oneAdded : Signed → Signed
+oneAdded s = record { column = s .column +ℤ pos 1; row = s .row +ℤ pos 1 }
 
-abbrev pub shifted : Signed → Change
-shifted s = record { column = plusOne (s .column); row = plusOne (s .row) }
+-- an entry of the code's table, as signed numbers
+abbrev pub asSigned : Change → Signed
+asSigned d = record { column = pos (d .column); row = pos (d .row) }
 
 -- the code's table is document 01's with one added to each change
-pub table-is : changes ≡ map shifted headings
+pub table-is : map asSigned changes ≡ map oneAdded headings
 unfolding changes
 table-is = refl
 
-pub across-small : (h : ℕ) → h < 8 → changeOf h .column ≤ 2
+-- a change plus one is at most 2, at every heading
+pub change-small : (h : ℕ) → h < 8 → (changeOf h .column ≤ 2) × (changeOf h .row ≤ 2)
 unfolding changeOf changes
-across-small h b = leb→le _ _ (entry (λ (k : ℕ) (d : Change). leb (d .column) 2) changes (record { column = 0; row = 0 }) tt h b)
-
-pub down-small : (h : ℕ) → h < 8 → changeOf h .row ≤ 2
-unfolding changeOf changes
-down-small h b = leb→le _ _ (entry (λ (k : ℕ) (d : Change). leb (d .row) 2) changes (record { column = 0; row = 0 }) tt h b)
+change-small h b =
+    let small = entry (λ (k : ℕ) (d : Change). both (leb (d .column) 2) (leb (d .row) 2)) changes (record { column = 0; row = 0 }) refl h b in
+    let (column, row) = both-true (leb (changeOf h .column) 2) (leb (changeOf h .row) 2) small in
+    (leb-true _ _ column, leb-true _ _ row)

@@ -6,7 +6,7 @@ use mathlib.Core.List.{List, [], _∷_}
 use Prim.Native.Nat.{ℕ, zero, suc, _+_, _-_, _*_, _/_, _%_, _^_, _<_}
 use native.Mathlib.Nat.{zero-mul, suc-mul, pow-suc, zero-div}
 use native.Mathlib.Omega.{arith}
-use lib.Dec.{eqb, eqb→eq, eqb·suc-zero}
+use lib.Dec.{eqb, eqb·suc-zero}
 use lib.Bits.{bitAnd, and-high}
 use lib.Pow.{shr-mod, pow-pos, shr-shr, shr-lt}
 use lib.ListN.{getD}
@@ -25,7 +25,7 @@ mask : (k : ℕ) → k < 8 → getD masks k 0 ≡ 2 ^ (8 - k + k) - 2 ^ k
 unfolding masks
 mask k h =
     let e : 8 - k + k ≡ 8 = omega arith in
-    let q : getD masks k 0 + 2 ^ k ≡ 256 = eqb→eq _ _ (entry (λ (i x : ℕ). eqb (x + 2 ^ i) 256) masks 0 tt k h) in
+    let q : getD masks k 0 + 2 ^ k ≡ 256 = eqb-true _ _ (entry (λ (i x : ℕ). eqb (x + 2 ^ i) 256) masks 0 refl k h) in
     rw e (omega (arith, q))
 
 same-zero : (q p : ℕ) → 0 < p → eqb (q * p) 0 ≡ eqb q 0

@@ -17,7 +17,7 @@ use Rattle.floor.specs.declared.Test.{Test}
 use Rattle.floor.specs.declared.Test.the-variants as test
 use Rattle.floor.specs.declared.Lead.{Lead}
 use Rattle.floor.specs.declared.Lead.the-variants as lead
-use Rattle.floor.specs.Floor.{Map, bytesPerRow, both, open?, cellOf}
+use Rattle.floor.specs.Floor.{Map, Open, bytesPerRow, both, open?, cellOf, cells}
 use Rattle.floor.specs.Refusals.{offFloor}
 use Rattle.floor.specs.Heading.{changeOf}
 
@@ -35,6 +35,13 @@ pub record Sound (m : Map) : Type 0 where
   pub some-high : 1 ≤ m .height
   pub high : m .height ≤ 128
   pub size : length (m .bytes) ≡ m .height * bytesPerRow (m .width)
+
+-- what a call to a goal has been tested for: the floor is accepted, the goal's cell is open, and the table has an entry for each cell
+pub record Ready (m : Map) (goal entries : ℕ) : Type 0 where
+  pub sound : Sound m
+  pub inside : goal < cells m
+  pub free : Open m (goal % m .width) (goal / m .width)
+  pub size : entries ≡ cells m
 
 -- the test of a place: its cell's number, or off the floor
 unfoldable pub placeOf : (width height column row : ℕ) → Place

@@ -4,7 +4,7 @@ use Prim.Native.Nat.{ℕ, _+_, _-_, _*_, _/_, _%_, _≤_}
 use native.Mathlib.Omega.{arith}
 use borrow.Author.Tests.{not-true, not-false}
 use Rattle.floor.specs.Floor.{Map, mapOf}
-use Rattle.floor.proofs.Headings.{across-small, down-small}
+use Rattle.floor.proofs.Headings.{change-small}
 use Rattle.floor.proofs.Reading.{small}
 use Rattle.floor.proofs.Stepping.{place, Past, leads-nowhere, leads-to, leads-end}
 use borrow.Author.Needs.{needs}
@@ -25,9 +25,8 @@ permitted-requires c κs =
     let a = c .before .before .args in
     let sound = c .before .before .pre .0 in
     let on = place (mapOf (a .width) (a .height) (a .map .now)) sound (a .cell) (c .before .before .pre .1 .1) in
-    let across = across-small (a .heading) (c .before .before .pre .1 .0) in
-    let down = down-small (a .heading) (c .before .before .pre .1 .0) in
-    (sound, ((rw (c .change-of .ensures) across, rw (c .change-of .ensures) down), (omega (arith, sound), omega (arith, sound))))
+    let change = change-small (a .heading) (c .before .before .pre .1 .0) in
+    (sound, (rw (c .change-of .ensures) change, (omega (arith, sound), omega (arith, sound))))
 
 returns : tie.Need-returns
 returns c = leads-nowhere (mapOf _ _ _) _ _ _ (c .before .before .change-of .ensures) _ (c .before .permitted .ensures) (not-true _ (c .if1 .taken))
