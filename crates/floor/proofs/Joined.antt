@@ -5,7 +5,7 @@ use mathlib.Core.Bool.{Bool, true, false, true≢false, false≢true}
 use Prim.Native.Nat.{ℕ, zero, suc, _<_}
 use native.Mathlib.Omega.{arith}
 use native.Mathlib.Decide.{ℕ-discrete}
-use Rattle.given.specs.Given.{either}
+use Rattle.given.proofs.Picked.{either-false}
 use Rattle.floor.specs.Floor.{both}
 use Rattle.floor.specs.Refusals.{someBelow}
 use Rattle.floor.specs.Room.{allBelow}
@@ -13,10 +13,6 @@ use Rattle.floor.specs.Room.{allBelow}
 pub both-true : (a b : Bool) → both a b ≡ true → (a ≡ true) × (b ≡ true)
 both-true true b e = (refl, e)
 both-true false b e = absurd (false≢true e)
-
-pub either-false : (a b : Bool) → either a b ≡ false → (a ≡ false) × (b ≡ false)
-either-false true b e = absurd (true≢false e)
-either-false false b e = (refl, e)
 
 -- a number below suc n is n or below n
 last-or : (P : ℕ → Type 0) (n k : ℕ) → k < suc n → P n → (k < n → P k) → P k

@@ -12,33 +12,37 @@ use lib.ListN.{getD, length}
 use lib.Dec.{T as Holds, ltb, ltb→lt, lt→ltb}
 use Rattle.given.specs.Given.{pick}
 use Rattle.floor.specs.declared.Lead.the-variants.{To, Nowhere}
-use Rattle.floor.specs.Floor.{Map, blocked, both, open?}
+use Rattle.floor.specs.Floor.{Map, both, open?}
 use Rattle.floor.specs.Inner.{openPast, permitted, leadOf}
 use Rattle.floor.specs.Heading.{changeOf}
 use Rattle.floor.specs.Step.{Step}
+use Rattle.floor.proofs.Joined.{both-true}
+use Rattle.floor.proofs.Reading.{open-on}
 use Rattle.floor.proofs.Grid.{Floor, graph, cell, cell-column, cell-row}
 
+-- a test that holds is true, and the other way round
+true-of : (b : Bool) → Holds b → b ≡ true
+true-of true t = refl
+true-of false t = absurd t
+
+holds-of : {b : Bool} → b ≡ true → Holds b
+holds-of e = subst Holds (sym e) tt
+
 both-left : (a b : Bool) → Holds (both a b) → Holds a
-both-left true b t = tt
-both-left false b t = t
+both-left a b t = holds-of (both-true a b (true-of (both a b) t) .0)
 
 both-right : (a b : Bool) → Holds (both a b) → Holds b
-both-right true b t = t
-both-right false b t = absurd t
+both-right a b t = holds-of (both-true a b (true-of (both a b) t) .1)
 
 both-and : (a b : Bool) → Holds a → Holds b → Holds (both a b)
 both-and true b s t = t
 both-and false b s t = s
 
 pub open-column : (m : Map) (c r : ℕ) → Holds (open? m c r) → c < m .width
-unfolding open?
-open-column m c r t = ltb→lt c (m .width) (both-left (ltb c (m .width)) (both (ltb r (m .height)) (not (blocked m c r))) t)
+open-column m c r t = open-on m c r (true-of (open? m c r) t) .0
 
 pub open-row : (m : Map) (c r : ℕ) → Holds (open? m c r) → r < m .height
-unfolding open?
-open-row m c r t =
-    ltb→lt r (m .height)
-    (both-left (ltb r (m .height)) (not (blocked m c r)) (both-right (ltb c (m .width)) (both (ltb r (m .height)) (not (blocked m c r))) t))
+open-row m c r t = open-on m c r (true-of (open? m c r) t) .1
 
 abbrev pub floor : Map → Floor
 floor m = record {

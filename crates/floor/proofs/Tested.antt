@@ -9,7 +9,7 @@ use borrow.Author.Tests.{ltb-true, ltb-false, eqb-true, not-false}
 use lib.Dec.{ltb}
 use lib.ListN.{length}
 use Rattle.given.specs.Given.{pick, either, firstOf}
-use Rattle.given.proofs.Picked.{pick-else, pick-then}
+use Rattle.given.proofs.Picked.{pick-else, pick-then, either-false}
 use Rattle.given.proofs.Answering.{same-values, same-number, not-refused}
 use Rattle.floor.specs.declared.Sides.{Sides}
 use Rattle.floor.specs.declared.Accepted.{Accepted}
@@ -20,7 +20,7 @@ use Rattle.floor.specs.Floor.{Map, bytesPerRow}
 use Rattle.floor.specs.Refusals.{Asked, holds, sidesOutside, wrongLength, pastWidth, offFloor, floorRefused}
 use Rattle.floor.specs.Answers.{acceptedGives, Accepts}
 use Rattle.floor.specs.Inner.{Sided, Sound, testOf, placeOf}
-use Rattle.floor.proofs.Joined.{both-true, either-false}
+use Rattle.floor.proofs.Joined.{both-true}
 
 apart : test.Failed ≡ test.Passed → ⊥
 apart e = let z : _≡_ {A = ℕ} 0 1 = cc in omega arith

@@ -6,23 +6,19 @@ use Prim.Native.Nat.{ℕ, _≤_}
 use native.Mathlib.Omega.{arith}
 use lib.Dec.{ltb}
 use borrow.Author.Tests.{ltb-false, le-ltb}
-use Rattle.given.specs.Given.{pick, either}
-use Rattle.given.proofs.Picked.{pick-else, pick-then}
+use Rattle.given.specs.Given.{pick}
+use Rattle.given.proofs.Picked.{pick-else, pick-then, either-false}
 use Rattle.lengths.specs.declared.Length.{Length}
 use Rattle.lengths.specs.declared.Parts.the-variants as parts
 use Rattle.lengths.specs.declared.Size.the-variants as size
 use Rattle.lengths.specs.Answers.{partAbove, sizeOutside}
 use Rattle.lengths.specs.Inner.{partsOf, sizeOf, Within}
 
-both-false : (a b : Bool) → either a b ≡ false → (a ≡ false) × (b ≡ false)
-both-false true b e = absurd (let z : _≡_ {A = ℕ} 0 1 = cc in omega arith)
-both-false false b e = (refl, e)
-
 -- the test of the parts, and their limits
 pub small-parts : (l : Length) → partAbove l ≡ false → Within l
 unfolding partAbove
 small-parts l t =
-    let (s, d) = both-false (ltb 16383 (l .straight)) (ltb 16383 (l .diagonal)) t in
+    let (s, d) = either-false (ltb 16383 (l .straight)) (ltb 16383 (l .diagonal)) t in
     record { straight = ltb-false 16383 (l .straight) s; diagonal = ltb-false 16383 (l .diagonal) d }
 
 pub parts-small : (l : Length) → Within l → partAbove l ≡ false
@@ -61,5 +57,5 @@ pub size-within : (n k : ℕ) → sizeOf n ≡ size.Within k → Sized n k
 unfolding sizeOf sizeOutside
 size-within n k e =
     let (t, f) = pick-else (sizeOutside n) size.Outside (size.Within n) (size.Within k) e (λ f. let z : _≡_ {A = ℕ} 0 1 = cc in omega arith) in
-    let (s, d) = both-false (ltb n 1) (ltb 1000 n) t in
+    let (s, d) = either-false (ltb n 1) (ltb 1000 n) t in
     record { same = cc; test = t; most = ltb-false 1000 n d }

@@ -6,7 +6,7 @@ use borrow.Author.Tests.{not-true, not-false}
 use Rattle.floor.specs.Floor.{Map, mapOf}
 use Rattle.floor.proofs.Headings.{change-small}
 use Rattle.floor.proofs.Reading.{small}
-use Rattle.floor.proofs.Stepping.{place, Past, leads-nowhere, leads-to, leads-end}
+use Rattle.floor.proofs.Stepping.{place, Ends as StepEnds, leads-nowhere, leads-to, leads-end}
 use borrow.Author.Needs.{needs}
 use Rattle.floor.proofs.steps.lead_of.Statement.{statement}
 use Rattle.floor.proofs.steps.lead_of.Tie as tie
@@ -42,7 +42,7 @@ abbrev rowAt : tie.After-struct-known → ℕ
 rowAt c = let a = c .before .before .before .before .before .args in a .cell / a .width + c .before .before .before .change-of .result .row
 
 record Ends (c : tie.After-struct-known) : Type 0 where
-  past : Past (mapAt c) (columnAt c) (rowAt c)
+  past : StepEnds (mapAt c) (columnAt c) (rowAt c)
   wide : mapAt c .width ≤ 128
   high : mapAt c .height ≤ 128
   product : (rowAt c - 1) * mapAt c .width ≤ 16384
