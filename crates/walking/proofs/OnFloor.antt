@@ -1,0 +1,90 @@
+-- The reader on a floor: its run is a walk by permitted steps, with a filled table the first route, and the mark says that there is no way.
+-- Assumes nothing.
+use mathlib.Core.Path.{_≡_, refl, ap, sym, subst, _∙_}
+use mathlib.Core.Logic.{_≢_}
+use mathlib.Core.Bool.{false}
+use mathlib.Core.List.{List}
+use Prim.Native.Nat.{ℕ, _≤_, _<_}
+use native.Mathlib.Omega.{arith}
+use native.Mathlib.Nat.{mul-le-mul}
+use native.Mathlib.Decide.{ℕ-discrete}
+use lib.ListN.{getD}
+use Rattle.lengths.specs.declared.Length.{Length}
+use Rattle.floor.specs.declared.Lead.the-variants.{To}
+use Rattle.floor.specs.Floor.{Map, cells}
+use Rattle.floor.specs.Inner.{Sound, leadOf}
+use Rattle.floor.specs.Step.{stepsOf}
+use Rattle.floor.specs.Way.{Reach, Only}
+use Rattle.floor.proofs.Grid.{inside, back, one-way}
+use Rattle.floor.proofs.Leads.{floor, to-step, from-step}
+use Rattle.entries.specs.Entry.{Entry, mark, long, pack, malformed, read, entryAt}
+use Rattle.entries.specs.Filled.{Says, Filled}
+use Rattle.entries.proofs.Packing.{read-mark, pack-read}
+use Rattle.entries.proofs.Judging.{filled-says, filled-right}
+use Rattle.walking.specs.Route as walk
+use Rattle.walking.specs.Route.{FirstRoute, Walk}
+use Rattle.walking.specs.Legs.{again}
+use Rattle.walking.specs.Reading.{Order, Run, done, more}
+use Rattle.walking.proofs.First.{first-unique, follows-first}
+use Rattle.walking.proofs.Fitting.{getD-any, run-follows}
+use Rattle.walking.proofs.ShortLegs.{run-short}
+
+-- both ends of a step lie on the floor
+on-floor : (m : Map) (h x y : ℕ) → (stepsOf m) .Step h x y → (x < cells m) × (y < cells m)
+on-floor m h x y s = (inside (floor m) h x y s, inside (floor m) _ y x ((back (floor m)) .back h x y s))
+
+pub lands : (m : Map) (h x y : ℕ) → h < 8 → leadOf m h x ≡ To y → y < cells m
+lands m h x y b p = on-floor m h x y (to-step m h x y b p) .1
+
+-- the reader's run is a walk
+run-walk : (m : Map) {t : List ℕ} {at : ℕ → ℕ} {x : ℕ} {hs : List ℕ} {a : Length} → Run (leadOf m) t at x hs a → (y : ℕ) × Walk (stepsOf m) x y hs a
+run-walk m {x = x} (done e) = (x, walk.stay)
+run-walk m (more {h = h} {x = x} {y = y} e b q r) = let (z, w) = run-walk m r in (z, walk.step (to-step m h x y b q) w)
+
+-- so each leg of it has at most 127 steps
+pub leg-short : (m : Map) → Sound m → (n h : ℕ) (hs t : List ℕ) (at : ℕ → ℕ) {x : ℕ} {a : Length} → Run (leadOf m) t at x (again n h hs) a → n ≤ 127
+leg-short m c n h hs t at r = let (y, w) = run-walk m r in run-short (floor m) (c .wide) (c .high) n h hs w
+
+-- two first routes are the same, if no two headings have one rank
+pub route-unique : (m : Map) (rank : ℕ → ℕ) → ((h k : ℕ) → h < 8 → k < 8 → rank h ≡ rank k → h ≡ k) → {Goal : ℕ → Type 0} {x : ℕ} {hs ks : List ℕ} {a b : Length}
+    → FirstRoute (stepsOf m) Goal rank x hs a → FirstRoute (stepsOf m) Goal rank x ks b → hs ≡ ks
+route-unique m rank apart {Goal} = first-unique (stepsOf m) Goal rank (one-way (floor m)) (λ h k x y z s t. apart h k (s .heading) (t .heading))
+
+module _ (m : Map) (c : Sound m) (goal : ℕ) (on : goal < cells m) (t : List ℕ) (f : Filled (stepsOf m) (Only goal) (cells m) t) where
+  goal? : (x : ℕ) → Dec (Only goal x)
+  goal? x = ℕ-discrete x goal
+
+  goal-inside : (x : ℕ) → Only goal x → x < cells m
+  goal-inside x e = omega arith
+
+  few-cells : cells m ≤ 16384
+  few-cells = omega (arith, mul-le-mul (c .high) (c .wide))
+
+  pub right : (x : ℕ) → Says (stepsOf m) (Only goal) x (entryAt t x)
+  right = filled-says (stepsOf m) (Only goal) goal? (cells m) few-cells (inside (floor m)) goal-inside t (f .size) f
+
+  well : (x : ℕ) → x < cells m → malformed (getD t x 4294967295) ≡ false
+  well x b = filled-right (stepsOf m) (Only goal) goal? (cells m) few-cells (inside (floor m)) goal-inside t (f .size) f x b .formed
+
+  -- a cell's number, as the code reads it, is its entry packed
+  pub number-is : (x : ℕ) → x < cells m → getD t x 0 ≡ pack (entryAt t x)
+  number-is x b = getD-any t x 0 4294967295 (omega (arith, f .size)) ∙ sym (pack-read (getD t x 4294967295) (well x b))
+
+  has-length : (x : ℕ) → x < cells m → getD t x 0 ≢ 4294967295 → (a : Length) × (entryAt t x ≡ long a)
+  has-length x b n = by (entryAt t x) refl
+    where
+      by : (e : Entry) → entryAt t x ≡ e → (a : Length) × (entryAt t x ≡ long a)
+      by mark p = absurd (n (number-is x b ∙ ap pack p))
+      by (long a) p = (a, p)
+
+  -- the mark says that there is no way
+  pub no-way : (x : ℕ) → x < cells m → getD t x 0 ≡ 4294967295 → (a : Length) → ¬ Reach (stepsOf m) (Only goal) x a
+  no-way x b e = subst (Says (stepsOf m) (Only goal) x) (ap read (getD-any t x 4294967295 0 (omega (arith, f .size)) ∙ e) ∙ read-mark) (right x)
+
+  -- else the reader's run is the first route
+  pub first-run : (o : Order) {x : ℕ} {hs : List ℕ} {a : Length} → x < cells m → getD t x 0 ≢ 4294967295 → Run (leadOf m) t (o .at) x hs a
+      → FirstRoute (stepsOf m) (Only goal) (o .rank) x hs a
+  first-run o {x} b n r =
+      let (a, p) = has-length x b n in
+      follows-first (stepsOf m) (Only goal) (o .rank) (one-way (floor m))
+      (run-follows (stepsOf m) (Only goal) (cells m) (leadOf m) t o (to-step m) (λ h x y s. (s .heading, from-step m h x y s)) (λ h. refl) (on-floor m) (f .size) right well a p r)

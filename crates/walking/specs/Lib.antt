@@ -1,0 +1,4 @@
+pub mod Route
+pub mod Legs
+pub mod Read
+pub mod Reading

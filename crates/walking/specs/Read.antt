@@ -1,0 +1,46 @@
+-- What reading a route from a table answers, and what it leaves in the leg buffer.
+-- Assumes nothing.
+use mathlib.Core.Path.{_≡_}
+use mathlib.Core.List.{List, _++_}
+use Prim.Native.Nat.{ℕ, _*_, _≤_, _<_}
+use lib.ListN.{length, drop}
+use Rattle.lengths.specs.declared.Length.{Length}
+use Rattle.floor.specs.Way.{Graph, Reach}
+use Rattle.walking.specs.declared.Reading.{Reading}
+use Rattle.walking.specs.declared.Reading.the-variants as reading
+use Rattle.walking.specs.declared.Way.{Way}
+use Rattle.walking.specs.Route.{FirstRoute}
+use Rattle.walking.specs.Legs.{Leg, Legs, bytes}
+
+-- the first route from start to the goal, with its length and its legs
+pub record Routes (G : Graph) (Goal : ℕ → Type 0) (rank : ℕ → ℕ) (start : ℕ) (size : Length) (legs : List Leg) : Type 0 where
+  pub headings : List ℕ
+  pub first : FirstRoute G Goal rank start headings size
+  pub legs-are : Legs headings legs
+
+-- a way: its length, its leg count, and its legs from the front of the buffer; bytes after the last leg keep their values
+pub record Found (G : Graph) (Goal : ℕ → Type 0) (rank : ℕ → ℕ) (start : ℕ) (old : List ℕ) (w : Way) (new : List ℕ) : Type 0 where
+  pub legs : List Leg
+  pub route : Routes G Goal rank start (w .length) legs
+  pub count : w .legs ≡ length legs
+  pub room : 2 * length legs ≤ length old
+  pub written : new ≡ bytes legs ++ drop (2 * length legs) old
+
+-- no way
+pub record NoWay (G : Graph) (Goal : ℕ → Type 0) (start : ℕ) (old new : List ℕ) : Type 0 where
+  pub none : (l : Length) → ¬ Reach G Goal start l
+  pub same : new ≡ old
+
+-- leg buffer shorter than 2 × legs; the leg count
+pub record NoRoom (G : Graph) (Goal : ℕ → Type 0) (rank : ℕ → ℕ) (start : ℕ) (old : List ℕ) (count : ℕ) (new : List ℕ) : Type 0 where
+  pub size : Length
+  pub legs : List Leg
+  pub route : Routes G Goal rank start size legs
+  pub counted : count ≡ length legs
+  pub short : length old < 2 * length legs
+  pub same : new ≡ old
+
+abbrev pub Reads : (G : Graph) (Goal : ℕ → Type 0) (rank : ℕ → ℕ) (start : ℕ) (old : List ℕ) → Reading → (new : List ℕ) → Type 0
+Reads G Goal rank start old (reading.Way w) new = Found G Goal rank start old w new
+Reads G Goal rank start old reading.NoWay new = NoWay G Goal start old new
+Reads G Goal rank start old (reading.NoRoom n) new = NoRoom G Goal rank start old n new

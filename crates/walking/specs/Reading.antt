@@ -1,0 +1,138 @@
+-- What the functions inside the reader compute and leave: the next heading, the walker, its legs. Over any order of the eight headings.
+-- Assumes nothing.
+use mathlib.Core.Path.{_≡_, refl}
+use mathlib.Core.Logic.{_≢_}
+use mathlib.Core.Bool.{Bool, false}
+use mathlib.Core.List.{List, [], _∷_, _++_}
+use Prim.Native.Nat.{ℕ, zero, suc, _+_, _*_, _≤_, _<_}
+use lib.Dec.{eqb}
+use lib.ListN.{getD, length, drop}
+use Rattle.given.specs.Given.{pick}
+use Rattle.lengths.specs.declared.Length.{Length}
+use Rattle.lengths.specs.Order.{zeroLength, _⊕_, steps}
+use Rattle.floor.specs.declared.Lead.{Lead}
+use Rattle.floor.specs.declared.Lead.the-variants.{To, Nowhere}
+use Rattle.floor.specs.Floor.{Map, cells}
+use Rattle.floor.specs.Heading.{weight}
+use Rattle.floor.specs.Inner.{leadOf}
+use Rattle.entries.specs.Entry.{long, pack}
+use Rattle.walking.specs.declared.Walker.{Walker}
+use Rattle.walking.specs.declared.WalkedLeg.{WalkedLeg}
+use Rattle.walking.specs.declared.Way.{Way}
+use Rattle.walking.specs.Legs.{Leg, Legs, again, bytes}
+
+-- an order of the eight headings: which one stands at each place, and the place of each
+pub record Order : Type 0 where
+  pub at : ℕ → ℕ
+  pub rank : ℕ → ℕ
+  pub at-below : (i : ℕ) → i < 8 → at i < 8
+  pub rank-below : (h : ℕ) → h < 8 → rank h < 8
+  pub rank-at : (i : ℕ) → i < 8 → rank (at i) ≡ i
+  pub at-rank : (h : ℕ) → h < 8 → at (rank h) ≡ h
+
+-- the headings as numbered
+abbrev pub numbered : Order
+numbered = record {
+  at = λ i. i;
+  rank = λ h. h;
+  at-below = λ i b. b;
+  rank-below = λ h b. b;
+  rank-at = λ i b. refl;
+  at-rank = λ h b. refl;
+}
+
+-- what a step by heading h adds to a table's number
+abbrev pub cost : ℕ → ℕ
+cost h = pack (long (weight h))
+
+-- a step that leads somewhere, and the number here is the number there with the step added
+abbrev pub fitsLead : List ℕ → ℕ → ℕ → Lead → Bool
+fitsLead table here h Nowhere = false
+fitsLead table here h (To y) = eqb here (getD table y 0 + cost h)
+
+-- the step by heading h from x is permitted, and the numbers of its ends differ by it
+unfoldable pub fits : (ℕ → ℕ → Lead) → List ℕ → ℕ → ℕ → Bool
+fits lead table x h = fitsLead table (getD table x 0) h (lead h x)
+
+-- the first of k headings from place i that passes the test, or 8
+abbrev pub seek : (ℕ → Bool) → (ℕ → ℕ) → ℕ → ℕ → ℕ
+seek test at zero i = 8
+seek test at (suc k) i = pick (test (at i)) (at i) (seek test at k (suc i))
+
+-- the first heading whose step fits, or 8
+unfoldable pub next : (ℕ → ℕ → Lead) → List ℕ → (ℕ → ℕ) → ℕ → ℕ
+next lead table at x = seek (fits lead table x) at 8 0
+
+-- the reader's headings from x, with their length
+pub data Run (lead : ℕ → ℕ → Lead) (table : List ℕ) (at : ℕ → ℕ) : ℕ → List ℕ → Length → Type 0 where
+  done : {x : ℕ} → next lead table at x ≡ 8 → Run lead table at x [] zeroLength
+  more : {h x y : ℕ} {hs : List ℕ} {l : Length} → next lead table at x ≡ h → h < 8 → lead h x ≡ To y → Run lead table at y hs l
+      → Run lead table at x (h ∷ hs) (l ⊕ weight h)
+
+-- the walker stands on the floor and knows its next heading, and its counts have room for the steps that are left
+pub record Stands (m : Map) (table : List ℕ) (o : Order) (w : Walker) : Type 0 where
+  pub on : w .cell < cells m
+  pub ready : w .next ≡ next (leadOf m) table (o .at) (w .cell)
+  pub few : steps (w .length) + getD table (w .cell) 0 < 4294967296
+
+-- a walker at a cell, before its first step
+pub record Starts (m : Map) (table : List ℕ) (o : Order) (cell : ℕ) (w : Walker) : Type 0 where
+  pub stands : Stands m table o w
+  pub there : w .cell ≡ cell
+  pub none : w .length ≡ zeroLength
+
+-- one step from w to v
+pub record Steps (m : Map) (table : List ℕ) (o : Order) (w v : Walker) : Type 0 where
+  pub lead : leadOf m (w .next) (w .cell) ≡ To (v .cell)
+  pub sum : v .length ≡ w .length ⊕ weight (w .next)
+  pub falls : getD table (v .cell) 0 < getD table (w .cell) 0
+  pub stands : Stands m table o v
+
+-- what a step hands back: the walker moved, or at the goal the same
+pub record Stepped (m : Map) (table : List ℕ) (o : Order) (w v : Walker) : Type 0 where
+  pub still : 8 ≤ w .next → v ≡ w
+  pub moved : w .next < 8 → Steps m table o w v
+
+-- what n steps by the heading h from w to v leave of the headings hs, of length l
+pub record Split (m : Map) (table : List ℕ) (o : Order) (w v : Walker) (n h : ℕ) (hs : List ℕ) (l : Length) : Type 0 where
+  pub rest : List ℕ
+  pub left : Length
+  pub run : Run (leadOf m) table (o .at) (v .cell) rest left
+  pub heads : hs ≡ again n h rest
+  pub sum : v .length ⊕ left ≡ w .length ⊕ l
+
+-- n steps by the heading h lead from w to v
+pub record Going (m : Map) (table : List ℕ) (o : Order) (w v : Walker) (n h : ℕ) : Type 0 where
+  pub stands : Stands m table o v
+  pub falls : getD table (v .cell) 0 + n ≤ getD table (w .cell) 0
+  pub first : n ≡ 0 → v ≡ w
+  pub split : (hs : List ℕ) (l : Length) → Run (leadOf m) table (o .at) (w .cell) hs l → Split m table o w v n h hs l
+
+-- the whole leg from w
+pub record Leads (m : Map) (table : List ℕ) (o : Order) (w : Walker) (r : WalkedLeg) : Type 0 where
+  pub heading : r .heading ≡ w .next
+  pub going : Going m table o w (r .after) (r .count) (w .next)
+  pub turns : r .after .next ≢ w .next
+  pub some : 0 < r .count
+  pub short : r .count ≤ 127
+
+-- ls are the legs ahead of w, and total is the length at their end
+pub record Ahead (m : Map) (table : List ℕ) (o : Order) (w : Walker) (ls : List Leg) (total : Length) : Type 0 where
+  pub headings : List ℕ
+  pub left : Length
+  pub run : Run (leadOf m) table (o .at) (w .cell) headings left
+  pub legs : Legs headings ls
+  pub sum : w .length ⊕ left ≡ total
+
+-- the legs ahead counted, with the length at their end
+pub record Counted (m : Map) (table : List ℕ) (o : Order) (w : Walker) (r : Way) : Type 0 where
+  pub exact : (ls : List Leg) (total : Length) → Ahead m table o w ls total → (r .legs ≡ length ls) × (r .length ≡ total)
+  pub small : r .legs < 4294967296
+
+-- there is room for the legs ahead
+abbrev pub Room : (m : Map) (table : List ℕ) (o : Order) (w : Walker) → List ℕ → Type 0
+Room m table o w old = (ls : List Leg) (total : Length) → Ahead m table o w ls total → 2 * length ls ≤ length old
+
+-- the legs ahead written from the front
+abbrev pub Written : (m : Map) (table : List ℕ) (o : Order) (w : Walker) → (old new : List ℕ) → Type 0
+Written m table o w old new = (ls : List Leg) (total : Length) → Ahead m table o w ls total → new ≡ bytes ls ++ drop (2 * length ls) old
