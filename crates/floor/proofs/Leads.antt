@@ -60,7 +60,7 @@ module _ (m : Map) where
     pub row : 0 < r
     pub «open» : Holds (open? m (c - 1) (r - 1))
 
-  past : (c r : ℕ) → Holds (openPast m c r) → Past c r
+  pub past : (c r : ℕ) → Holds (openPast m c r) → Past c r
   unfolding openPast
   past c r t =
       let u = both-right (ltb 0 c) (both (ltb 0 r) (open? m (c - 1) (r - 1))) t in

@@ -5,3 +5,4 @@ pub mod Rounding
 pub mod Tested
 pub mod WaysOut
 pub mod Unique
+pub mod Keys

@@ -1,0 +1,95 @@
+-- The first wave: the goal alone is reached.
+-- Assumes nothing.
+use mathlib.Core.Path.{_≡_, refl, ap, sym, subst, _∙_}
+use mathlib.Core.Logic.{_⊎_, inl, inr}
+use mathlib.Core.List.{List}
+use Prim.Native.Nat.{ℕ, _+_, _*_, _≤_, _<_}
+use native.Mathlib.Omega.{arith}
+use native.Mathlib.Decide.{ℕ-discrete}
+use lib.ListN.{getD, length, set, length-set}
+use lib.Seq.{getD-set-same}
+use Rattle.lengths.proofs.Keys.{straightKey}
+use Rattle.waves.specs.Work.{unreached, at, waiting, Room}
+use Rattle.waves.specs.Taken.{This}
+use Rattle.waves.specs.Solved.{Loaded}
+use Rattle.waves.proofs.Kept.{Between}
+use Rattle.waves.proofs.Changed.{each, waiting-set, waiting-le}
+
+module _ (x q : List ℕ) (goal : ℕ) (l : Loaded x q goal) where
+  pub goal-inside : goal < length x
+  goal-inside = omega (arith, l .border goal (omega (arith, l .start)))
+
+  in-q : 0 < length q
+  in-q = omega (arith, l .places)
+
+  -- only the goal is reached
+  only : (z : ℕ) → 0 < at x z → at x z < unreached → z ≡ goal
+  only z o f = by (l .kinds z)
+    where
+      by : (z ≡ goal) ⊎ ((at x z ≡ 0) ⊎ (at x z ≡ unreached)) → z ≡ goal
+      by (inl e) = e
+      by (inr (inl e)) = absurd (omega arith)
+      by (inr (inr e)) = absurd (omega arith)
+
+  value : (z : ℕ) → 0 < at x z → at x z < unreached → at x z ≡ straightKey
+  value z o f = ap (at x) (only z o f) ∙ l .start
+
+  kind : (z : ℕ) → at x z ≤ unreached
+  kind z = by (l .kinds z)
+    where
+      by : (z ≡ goal) ⊎ ((at x z ≡ 0) ⊎ (at x z ≡ unreached)) → at x z ≤ unreached
+      by (inl e) = omega (arith, ap (at x) e, l .start)
+      by (inr (inl e)) = omega arith
+      by (inr (inr e)) = omega arith
+
+  -- all cells but the goal can wait
+  room : Room x (set q 0 goal) 1
+  room = record {
+    few = l .few;
+    places = length-set q 0 goal ∙ l .places;
+    enough =
+        omega (
+          arith,
+          waiting-set x goal unreached goal-inside,
+          l .start,
+          length-set x goal unreached,
+          waiting-le (set x goal unreached) (each x goal unreached goal-inside (λ i v. v ≤ unreached) (omega arith) (λ i e. kind i)),
+        );
+  }
+
+  pub begin : Between x goal 0 0 0 1 (2 * straightKey) x (set q 0 goal)
+  begin = record {
+    count = omega arith;
+    order = (omega arith, omega arith, omega arith);
+    settled = λ z r. omega (arith, value z (r .free) (r .found));
+    lates = λ i m n. absurd (omega arith);
+    these = λ i m n. let e : i ≡ 0 = omega arith in
+        subst (This x (2 * straightKey)) (sym (ap (λ (j : ℕ). getD (set q 0 goal) j 0) e ∙ getD-set-same q 0 goal 0 in-q))
+        (record { free = omega (arith, l .start); after = omega (arith, l .start); near = omega (arith, l .start) });
+    in-late = λ z k. absurd (omega (arith, value z (k .free) (omega (arith, k .near)), k .near));
+    in-these = λ z k. record {
+      index = 0;
+      here = getD-set-same q 0 goal 0 in-q ∙ sym (only z (k .free) (omega (arith, k .near)));
+      after = omega arith;
+      before = omega arith;
+    };
+    going = record {
+      border = l .border;
+      cells = refl;
+      room = room;
+      order = omega arith;
+      kinds = kind;
+      free = λ z o. o;
+      shut = λ z e. e;
+      start = l .start;
+      below = λ z f. below z f (ℕ-discrete (at x z) 0);
+      support = λ z o f. inl (only z o f);
+      relaxed = λ h a b s k. absurd (omega (arith, value a (s .from) (omega arith)));
+      listed = λ z o f. absurd (omega (arith, value z (omega arith) f));
+      queued = λ i m n. absurd (omega arith);
+    };
+  }
+    where
+      below : (z : ℕ) → at x z < unreached → Dec (at x z ≡ 0) → at x z < 2 * straightKey + straightKey
+      below z f (yes e) = omega arith
+      below z f (no e) = omega (arith, value z (omega arith) f)

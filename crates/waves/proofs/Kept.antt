@@ -1,0 +1,72 @@
+-- What the loops keep.
+-- Assumes nothing.
+use mathlib.Core.Path.{_≡_}
+use mathlib.Core.Logic.{_⊎_}
+use mathlib.Core.List.{List}
+use Prim.Native.Nat.{ℕ, _+_, _*_, _%_, _≤_, _<_}
+use lib.ListN.{getD, length}
+use Rattle.lengths.proofs.Keys.{straightKey}
+use Rattle.floor.specs.Floor.{Map}
+use Rattle.waves.specs.Work.{at, spot}
+use Rattle.waves.specs.Wave.{Wave, Listed, Reached, Going}
+use Rattle.waves.specs.Taken.{StepsLeft, This, Late}
+use Rattle.waves.specs.Passes.{LateReady, LateDone, ThisReady, ThisDone}
+use Rattle.waves.specs.Load.{Prefix}
+use Rattle.waves.specs.Store.{Stored}
+
+-- the steps out of p with the headings first, first + 2, .. below h were taken
+pub record Headings (first p cand t : ℕ) (x₀ q₀ : List ℕ) (h : ℕ) (x q : List ℕ) (t′ : ℕ) : Type 0 where
+  pub inside : h ≤ 9
+  pub parity : h % 2 ≡ first
+  pub left : StepsLeft (λ j. (j % 2 ≡ first) × (j < h)) p first cand t x₀ q₀ x q t′
+
+-- the late cells before i have taken their diagonal steps
+pub record Lates (t₀ prev last : ℕ) (x₀ q₀ : List ℕ) (i : ℕ) (x q : List ℕ) (t : ℕ) : Type 0 where
+  pub inside : (prev ≤ i) × ((i ≤ last) ⊎ (last ≤ prev))
+  pub keeps : (w : Wave) → LateReady w x₀ q₀ t₀ prev last → LateDone w prev i x₀ q₀ x q t
+
+-- this wave's cells before i have taken their steps, and the late ones among them stand before last
+pub record These (t₀ mid end limit : ℕ) (x₀ q₀ : List ℕ) (i last : ℕ) (x q : List ℕ) (t : ℕ) : Type 0 where
+  pub order : (mid ≤ last) × (last ≤ i) × (i ≤ end)
+  pub keeps : (w : Wave) → ThisReady w x₀ q₀ t₀ mid end limit → ThisDone w mid i last x₀ q₀ x q t
+
+-- a wave of this floor and goal
+abbrev pub the : List ℕ → (goal end limit : ℕ) → Wave
+the floor goal end limit = record { floor = floor; goal = goal; end = end; limit = limit }
+
+-- between waves
+pub record Between (floor : List ℕ) (goal prev last mid tail limit : ℕ) (x q : List ℕ) : Type 0 where
+  pub going : Going (the floor goal tail limit) x q tail
+  pub order : (prev ≤ last) × (last ≤ mid) × (mid ≤ tail)
+  -- all that was reached is settled
+  pub settled : (z : ℕ) → Reached x z → at x z < limit
+  -- q[prev..last] are the late cells of the wave before, and they alone
+  pub lates : (i : ℕ) → prev ≤ i → i < last → Late x limit (getD q i 0)
+  pub in-late : (z : ℕ) → Late x limit z → Listed q prev last z
+  -- q[mid..tail] are this wave's cells, and they alone
+  pub these : (i : ℕ) → mid ≤ i → i < tail → This x limit (getD q i 0)
+  pub in-these : (z : ℕ) → This x limit z → Listed q mid tail z
+  -- no wave was empty
+  pub count : limit ≤ straightKey * (mid + 2)
+
+-- the cells of row r before column c are loaded, and all before row r
+pub record CellsLoaded (m : Map) (x₀ : List ℕ) (c r : ℕ) (x : List ℕ) : Type 0 where
+  pub inside : c ≤ m .width
+  pub size : length x ≡ length x₀
+  pub prefix : Prefix m (spot c r) x
+
+-- the rows before r are loaded
+pub record RowsLoaded (m : Map) (x₀ : List ℕ) (r : ℕ) (x : List ℕ) : Type 0 where
+  pub inside : r ≤ m .height
+  pub size : length x ≡ length x₀
+  pub prefix : Prefix m (spot 0 r) x
+
+-- the entries of row r before column c are stored, and all before row r
+pub record CellsStored (width height : ℕ) (x : List ℕ) (c r : ℕ) (t : List ℕ) : Type 0 where
+  pub inside : c ≤ width
+  pub stored : Stored width height x (r * width + c) t
+
+-- the entries of the rows before r are stored
+pub record RowsStored (width height : ℕ) (x : List ℕ) (r : ℕ) (t : List ℕ) : Type 0 where
+  pub inside : r ≤ height
+  pub stored : Stored width height x (r * width) t

@@ -1,0 +1,16 @@
+pub mod Changed
+pub mod OneOffer
+pub mod Turns
+pub mod OneStep
+pub mod Kept
+pub mod ManySteps
+pub mod LatePass
+pub mod ThisPass
+pub mod FirstWave
+pub mod NextWave
+pub mod LastWave
+pub mod OnWork
+pub mod Shortest
+pub mod MapLoaded
+pub mod EntriesStored
+pub mod WholeFill

@@ -1,0 +1,137 @@
+-- From one wave to the next. A step that offers into the wave past `limit` is straight out of this wave, or diagonal out of the late cells of
+-- the wave before or the early ones of this wave; all these are taken, so the limit can rise by a straight step.
+-- Assumes nothing.
+use mathlib.Core.Path.{_≡_, refl, ap, sym, subst, _∙_}
+use mathlib.Core.Logic.{_⊎_, inl, inr}
+use mathlib.Core.List.{List}
+use Prim.Native.Nat.{ℕ, _+_, _≤_, _<_}
+use native.Mathlib.Omega.{arith}
+use native.Mathlib.Decide.{decLe}
+use lib.ListN.{getD}
+use Rattle.lengths.proofs.Keys.{straightKey}
+use Rattle.waves.specs.Work.{highest, at, cost, WorkStep}
+use Rattle.waves.specs.Wave.{Wave, Support, Listed}
+use Rattle.waves.specs.Taken.{This, Late}
+use Rattle.waves.specs.Passes.{LateReady, LateDone, LateLeft, ThisReady, ThisDone, ThisLeft}
+use Rattle.waves.proofs.Kept.{the, Between}
+
+module _ (floor : List ℕ) (goal prev last mid end limit : ℕ) (x q : List ℕ) (g : Between floor goal prev last mid end limit x q) (more : mid < end) where
+  abbrev v : Wave
+  v = the floor goal end limit
+
+  small : limit ≤ highest
+  small = omega (arith, g .count, g .going .room)
+
+  -- the late cells, and then this wave's, are ready for their steps
+  pub late-ready : LateReady (the floor goal end limit) x q end prev last
+  late-ready = record { going = g .going; small = small; inside = omega (arith, g .order); cells = g .lates }
+
+  module _ (x′ q′ : List ℕ) (t′ : ℕ) (l : LateLeft end prev last x q x′ q′ t′) where
+    first : LateDone (the floor goal end limit) prev last x q x′ q′ t′
+    first = l .keeps v late-ready
+
+    moved : (z : ℕ) → This x limit z → This x′ limit z
+    moved z k = let e = first .falls .keep z (k .near) in record { free = omega (arith, k .free); after = omega (arith, k .after); near = omega (arith, k .near) }
+
+    pub this-ready : ThisReady (the floor goal end limit) x′ q′ t′ mid end limit
+    this-ready = record {
+      going = first .going;
+      ends = record { same = refl; small = small };
+      same-end = refl;
+      order = omega arith;
+      cells = λ i m n. subst (This x′ limit) (sym (first .falls .queue i n)) (moved (getD q i 0) (g .these i m n));
+    }
+
+    module _ (x″ q″ : List ℕ) (t″ last′ : ℕ) (n : ThisLeft t′ mid end limit x′ q′ x″ q″ t″ last′) where
+      second : ThisDone (the floor goal end limit) mid end last′ x′ q′ x″ q″ t″
+      second = n .keeps v this-ready
+
+      -- settled cells are as they were when the wave began
+      kept : (z : ℕ) → at x z < limit → at x″ z ≡ at x z
+      kept z b = let e = first .falls .keep z b in second .keep z (omega arith) ∙ e
+
+      was : (z : ℕ) → at x″ z < limit → at x z ≡ at x″ z
+      was z b = by (decLe limit (at x z))
+        where
+          by : Dec (limit ≤ at x z) → at x z ≡ at x″ z
+          by (yes k) = absurd (omega (arith, second .high z (first .falls .high z k)))
+          by (no k) = sym (kept z (omega arith))
+
+      -- no step that ends in the wave that was taken would lower a cell
+      now-relaxed : (h a b : ℕ) → WorkStep floor h a b → at x″ a + cost h < limit + straightKey → at x″ b ≤ at x″ a + cost h
+      now-relaxed h a b u k = by (decLe limit (at x″ a + cost h)) (decLe limit (at x″ a + straightKey))
+        where
+          e : at x″ a < limit → at x a ≡ at x″ a
+          e = was a
+
+          free : 0 < at x″ a
+          free = second .going .free a (u .from)
+
+          by : Dec (limit ≤ at x″ a + cost h) → Dec (limit ≤ at x″ a + straightKey) → at x″ b ≤ at x″ a + cost h
+          by (no m) o = second .going .relaxed h a b u (omega arith)
+          by (yes m) (yes o) =
+              let same = e (omega arith) in
+              let i = g .in-these a (record { free = omega (arith, free); after = omega arith; near = omega arith }) in
+              let j = i .index in
+              let f : getD q′ j 0 ≡ a = first .falls .queue j (i .before) ∙ i .here in
+              let d : at x′ (getD q′ j 0) ≡ at x″ a = ap (at x′) f ∙ first .falls .keep a (omega arith) ∙ same in
+              omega (arith, second .done j h b (i .after) (i .before) (subst (λ (z : ℕ). WorkStep floor h z b) (sym f) u) (omega arith))
+          by (yes m) (no o) =
+              let same = e (omega arith) in
+              let i = g .in-late a (record { free = omega (arith, free); after = omega arith; near = omega arith }) in
+              let j = i .index in
+              let f : at x (getD q j 0) ≡ at x a = ap (at x) (i .here) in
+              omega (arith, second .low b, first .done j h b (i .after) (i .before) (omega arith) (subst (λ (z : ℕ). WorkStep floor h z b) (sym (i .here)) u))
+
+      -- the late cells of this wave
+      late-now : (z : ℕ) → Late x′ (limit + straightKey) z → Late x″ (limit + straightKey) z
+      late-now z k =
+          let e = second .keep z (omega (arith, k .near)) in
+          record { free = omega (arith, k .free); after = omega (arith, k .after); near = omega (arith, k .near) }
+
+      find-late : (z : ℕ) → Late x″ (limit + straightKey) z → Listed q″ mid last′ z
+      find-late z k =
+          let same = was z (omega (arith, k .near)) in
+          let i = g .in-these z (record { free = omega (arith, k .free); after = omega (arith, k .after); near = omega (arith, k .near) }) in
+          let j = i .index in
+          let f : getD q′ j 0 ≡ z = first .falls .queue j (i .before) ∙ i .here in
+          let d : at x′ (getD q′ j 0) ≡ at x″ z = ap (at x′) f ∙ first .falls .keep z (omega (arith, k .near)) ∙ same in
+          subst (Listed q″ mid last′) f (second .listed j (i .after) (i .before) (omega (arith, k .after)))
+
+      pub next : Between floor goal mid last′ end t″ (limit + straightKey) x″ q″
+      next = record {
+        count = omega (arith, g .count);
+        order = (n .order .0, n .order .1, second .going .order);
+        settled = λ z r. second .going .below z (r .found);
+        lates = λ i m k. late-now (getD q″ i 0) (second .late i m k);
+        these = λ i m k. let r = second .going .queued i m k in
+            record { free = omega (arith, r .after, positive); after = omega (arith, r .after); near = second .going .below (getD q″ i 0) (r .found) };
+        in-late = find-late;
+        in-these = λ z k. second .going .listed z (omega (arith, k .after)) (omega (arith, k .near, small));
+        going = record {
+          border = second .going .border;
+          cells = second .going .cells;
+          room = second .going .room;
+          order = omega arith;
+          kinds = second .going .kinds;
+          free = second .going .free;
+          shut = second .going .shut;
+          start = second .going .start;
+          below = λ z f. omega (arith, second .going .below z f);
+          support = λ z o f. again z (second .going .support z o f);
+          relaxed = now-relaxed;
+          listed = λ z o f. absurd (omega (arith, second .going .below z f));
+          queued = λ i m k. absurd (omega arith);
+        };
+      }
+        where
+          positive : 0 < limit
+          positive = by (decLe 1 limit)
+            where
+              by : Dec (0 < limit) → 0 < limit
+              by (yes k) = k
+              by (no k) = absurd (omega (arith, g .these mid (omega arith) more .near))
+
+          again : (z : ℕ) → (z ≡ goal) ⊎ Support (the floor goal end limit) x″ z (at x″ z) → (z ≡ goal) ⊎ Support (the floor goal t″ (limit + straightKey)) x″ z (at x″ z)
+          again z (inl e) = inl e
+          again z (inr u) = inr (record { heading = u .heading; cell = u .cell; step = u .step; near = omega (arith, u .near); sum = u .sum })

@@ -1,0 +1,185 @@
+-- What the waves leave is what the neighbours make each cell, and so the shortest lengths. A number that was found stands for a length, since
+-- its support does and a step adds its key; that no step would lower a number says, by keys, that no neighbour offers less.
+-- Assumes nothing.
+use mathlib.Core.Path.{_≡_, refl, ap, ap₂, sym, subst, subst₂, _∙_}
+use mathlib.Core.Logic.{_⊎_, inl, inr}
+use mathlib.Core.List.{List}
+use Prim.Native.Nat.{ℕ, zero, suc, _+_, _-_, _*_, _/_, _%_, _≤_, _<_}
+use native.Mathlib.Omega.{arith}
+use native.Mathlib.Nat.{div-add-mod', le-refl, mod-lt}
+use native.Mathlib.Decide.{decLe, ℕ-discrete}
+use Rattle.lengths.specs.declared.Length.{Length}
+use Rattle.lengths.specs.Order.{zeroLength, _⊕_, _⊑_}
+use Rattle.lengths.proofs.Keys.{straightKey, diagonalKey, key, key-order, pair, pair-back}
+use Rattle.floor.specs.Heading.{weight, byParity}
+use Rattle.floor.specs.Way.{Only}
+use Rattle.floor.proofs.Grid.{Floor, graph, cell, cell-column, cell-row}
+use Rattle.entries.specs.Entry.{Entry, mark, long}
+use Rattle.entries.specs.Filled.{Says}
+use Rattle.entries.specs.Made.{Least, Made}
+use Rattle.entries.proofs.Neighbours.{no-mark, long-inj, sound}
+use Rattle.waves.specs.Work.{unreached, stride, at, spot, cost, WorkStep}
+use Rattle.waves.specs.Solved.{Found, Solved}
+use Rattle.waves.specs.Store.{entryBy, entryOf, Keyed}
+use Rattle.waves.proofs.OnWork.{Mapped, spot-column, spot-row, back, to-work, from-work, opens}
+
+-- what a number can be
+pub data Kind (v : ℕ) : Type 0 where
+  shut : v ≡ 0 → entryOf v ≡ mark → Kind v
+  waits : unreached ≤ v → entryOf v ≡ mark → Kind v
+  reached : 0 < v → v < unreached → entryOf v ≡ long (pair (v - straightKey)) → Kind v
+
+pub kind : (v : ℕ) → Kind v
+unfolding entryOf
+kind v = by (ℕ-discrete v 0) refl (decLe (suc v) unreached) refl
+  where
+    by : (a : Dec (v ≡ 0)) → ℕ-discrete v 0 ≡ a → (b : Dec (v < unreached)) → decLe (suc v) unreached ≡ b → Kind v
+    by (yes e) p b q = shut e (ap (λ (a : Dec (v ≡ 0)). entryBy v a (decLe (suc v) unreached)) p)
+    by (no e) p (yes b) q = reached (omega arith) b (ap₂ (entryBy v) p q)
+    by (no e) p (no b) q = waits (omega arith) (ap₂ (entryBy v) p q)
+
+weight-key : (h : ℕ) → key (weight h) ≡ cost h
+weight-key h = by (h % 2) refl
+  where
+    by : (b : ℕ) → h % 2 ≡ b → key (byParity b) ≡ cost h
+    by zero e = omega arith
+    by (suc zero) e = omega arith
+    by (suc (suc b)) e = absurd (omega arith)
+
+module _ (floor : List ℕ) (goal : ℕ) (x : List ℕ) (s : Solved floor goal x) where
+  -- each number that was found stands for a length: that of the cell it was found from, and the step
+  keyed-below : (n z : ℕ) → at x z ≤ n → 0 < at x z → at x z < unreached → Keyed (at x z)
+  keyed-below zero z b o f = absurd (omega arith)
+  keyed-below (suc n) z b o f = by (s .support z o f) (keyed-below n)
+    where
+      by : (z ≡ goal) ⊎ Found floor x z (at x z) → ((y : ℕ) → at x y ≤ n → 0 < at x y → at x y < unreached → Keyed (at x y)) → Keyed (at x z)
+      by (inl e) ih = record { length = zeroLength; sum = ap (at x) e ∙ s .start }
+      by (inr u) ih =
+          let k = ih (u .cell) (omega (arith, u .sum)) (s .free (u .cell) (u .step .from)) (u .found) in
+          record { length = k .length ⊕ weight (u .heading); sum = omega (arith, u .sum, k .sum, weight-key (u .heading)) }
+
+  pub keyed : (z : ℕ) → 0 < at x z → at x z < unreached → Keyed (at x z)
+  keyed z = keyed-below (at x z) z (le-refl (at x z))
+
+  -- its parts are small, and it is read from the number
+  few : (z : ℕ) (f : at x z < unreached) (l : Length) → at x z ≡ straightKey + key l → (l .straight < diagonalKey) × (l .diagonal < straightKey)
+  few z f l e = (omega (arith, s .below z f), omega (arith, s .below z f))
+
+  read : (z : ℕ) (f : at x z < unreached) (l : Length) → at x z ≡ straightKey + key l → pair (at x z - straightKey) ≡ l
+  read z f l e =
+      let k : at x z - straightKey ≡ key l = omega arith in
+      ap pair k ∙ pair-back l (few z f l e .1)
+
+module _ (f : Floor) (wide : 0 < f .width) (floor x : List ℕ) (m : Mapped f floor) (g : ℕ)
+    (s : Solved floor (spot (g % f .width) (g / f .width)) x) where
+  abbrev place : ℕ → ℕ
+  place y = spot (y % f .width) (y / f .width)
+
+  abbrev T : ℕ → Entry
+  T y = entryOf (at x (place y))
+
+  abbrev Goal : ℕ → Type 0
+  Goal = Only g
+
+  narrow : (y : ℕ) → y % f .width < stride
+  narrow y = omega (arith, mod-lt y wide, m .narrow)
+
+  same-cell : (y z : ℕ) → place y ≡ place z → y ≡ z
+  same-cell y z e =
+      let a = spot-column (y % f .width) (y / f .width) (z % f .width) (z / f .width) (narrow y) (narrow z) e in
+      let b = spot-row (y % f .width) (y / f .width) (z % f .width) (z / f .width) (narrow y) (narrow z) e in
+      sym (div-add-mod' y (f .width)) ∙ ap₂ (λ (u v : ℕ). u * f .width + v) b a ∙ div-add-mod' z (f .width)
+
+  at-goal : T g ≡ long zeroLength
+  at-goal = ap entryOf (s .start) ∙ by (kind straightKey)
+    where
+      by : Kind straightKey → entryOf straightKey ≡ long zeroLength
+      by (shut e p) = absurd (omega arith)
+      by (waits e p) = absurd (omega arith)
+      by (reached o k p) = p
+
+  -- a permitted step is a step of the work array, both ways
+  there : (h y z : ℕ) → (graph f) .Step h y z → WorkStep floor h (place y) (place z)
+  there h y z u = to-work f floor m h _ _ _ _ u
+
+  low : (y : ℕ) → stride + 1 ≤ place y
+  low y = omega arith
+
+  again : (h y z : ℕ) → (graph f) .Step h y z → WorkStep floor ((h + 4) % 8) (place z) (place y)
+  again h y z u = back floor h (place y) (place z) (low y) (low z) (there h y z u)
+
+  -- over a step from y to z, y is not above z and the step
+  over : (h y z : ℕ) → (graph f) .Step h y z → at x (place z) < unreached → at x (place y) ≤ at x (place z) + cost h
+  over h y z u k = omega (arith, s .relaxed ((h + 4) % 8) (place z) (place y) (again h y z u) k)
+
+  marks : (y : ℕ) → (at x (place y) ≡ 0) ⊎ (unreached ≤ at x (place y)) → Least (graph f) T y mark
+  marks y v h z u = by (kind (at x (place z))) v
+    where
+      by : Kind (at x (place z)) → (at x (place y) ≡ 0) ⊎ (unreached ≤ at x (place y)) → T z ≡ mark
+      by (shut e p) v = p
+      by (waits e p) v = p
+      by (reached o k p) (inl e) = absurd (omega (arith, s .free (place y) (there h y z u .from)))
+      by (reached o k p) (inr e) = absurd (omega (arith, over h y z u k, s .below (place z) k))
+
+  lengths : (y : ℕ) → ¬ Goal y → 0 < at x (place y) → at x (place y) < unreached → Least (graph f) T y (long (pair (at x (place y) - straightKey)))
+  lengths y other o k = (some (s .support (place y) o k), all)
+    where
+      some : (place y ≡ place g) ⊎ Found floor x (place y) (at x (place y))
+          → (h : ℕ) × (z : ℕ) × (n : Length) × (graph f) .Step h y z × (T z ≡ long n) × (pair (at x (place y) - straightKey) ≡ n ⊕ weight h)
+      some (inl e) = absurd (other (same-cell y g e))
+      some (inr u) =
+          let from = u .step .from in
+          let c = m .column (u .cell) from in
+          let r = m .row (u .cell) from in
+          let p = m .opened (u .cell) from in
+          let in-width = f .column c r p in
+          let z = cell f c r in
+          let zc = cell-column f c r in-width in
+          let zr = cell-row f c r in-width in
+          let at-z : place z ≡ u .cell = ap₂ spot zc zr ∙ sym (m .place (u .cell) from) in
+          let o′ = opens f floor m (y % f .width) (y / f .width) (narrow y) (u .step .to) in
+          let p′ : f .Open (z % f .width) (z / f .width) = subst₂ (f .Open) (sym zc) (sym zr) p in
+          let st : WorkStep floor (u .heading) (place z) (place y) = subst (λ (i : ℕ). WorkStep floor (u .heading) i (place y)) (sym at-z) (u .step) in
+          let go = from-work f floor m ((u .heading + 4) % 8) _ _ _ _ o′ p′ (back floor (u .heading) (place z) (place y) (low z) (low y) st) in
+          let same : at x (place z) ≡ at x (u .cell) = ap (at x) at-z in
+          let free = s .free (u .cell) from in
+          let kz = keyed floor (place g) x s (place z) (omega arith) (omega (arith, u .found)) in
+          let n = kz .length in
+          let parity : (u .heading + 4) % 8 % 2 ≡ u .heading % 2 = omega arith in
+          let e : weight ((u .heading + 4) % 8) ≡ weight (u .heading) = ap byParity parity in
+          let entry-z = reads z (omega arith) (omega (arith, u .found)) n (kz .sum) in
+          let sum : at x (place y) ≡ straightKey + key (n ⊕ weight (u .heading)) = omega (arith, u .sum, kz .sum, weight-key (u .heading)) in
+          ((u .heading + 4) % 8, z, n, go, entry-z, read floor (place g) x s (place y) k (n ⊕ weight (u .heading)) sum ∙ ap (λ (d : Length). n ⊕ d) (sym e))
+        where
+          reads : (z : ℕ) → 0 < at x (place z) → at x (place z) < unreached → (n : Length) → at x (place z) ≡ straightKey + key n → T z ≡ long n
+          reads z o k n e = by (kind (at x (place z)))
+            where
+              by : Kind (at x (place z)) → T z ≡ long n
+              by (shut d p) = absurd (omega arith)
+              by (waits d p) = absurd (omega arith)
+              by (reached d b p) = p ∙ ap long (read floor (place g) x s (place z) k n e)
+
+      all : (h z : ℕ) (n : Length) → (graph f) .Step h y z → T z ≡ long n → pair (at x (place y) - straightKey) ⊑ n ⊕ weight h
+      all h z n u e = by (kind (at x (place z)))
+        where
+          by : Kind (at x (place z)) → pair (at x (place y) - straightKey) ⊑ n ⊕ weight h
+          by (shut d p) = absurd (no-mark (sym e ∙ p))
+          by (waits d p) = absurd (no-mark (sym e ∙ p))
+          by (reached d b p) =
+              let ky = keyed floor (place g) x s (place y) o k in
+              let kz = keyed floor (place g) x s (place z) d b in
+              let same : n ≡ kz .length = long-inj (sym e ∙ p) ∙ read floor (place g) x s (place z) b (kz .length) (kz .sum) in
+              subst₂ _⊑_ (sym (read floor (place g) x s (place y) k (ky .length) (ky .sum))) (ap (λ (d : Length). d ⊕ weight h) (sym same))
+              (key-order (ky .length) (kz .length ⊕ weight h) (few floor (place g) x s (place y) k (ky .length) (ky .sum) .0)
+              (omega (arith, over h y z u b, weight-key h, ky .sum, kz .sum)))
+
+  made : (y : ℕ) → Made (graph f) Goal T y (T y)
+  made y = record { at-goal = λ e. ap T e ∙ at-goal; elsewhere = λ other. by other (kind (at x (place y))) }
+    where
+      by : ¬ Goal y → Kind (at x (place y)) → Least (graph f) T y (T y)
+      by other (shut e p) = subst (Least (graph f) T y) (sym p) (marks y (inl e))
+      by other (waits e p) = subst (Least (graph f) T y) (sym p) (marks y (inr e))
+      by other (reached o k p) = subst (Least (graph f) T y) (sym p) (lengths y other o k)
+
+  pub says : (y : ℕ) → Says (graph f) Goal y (T y)
+  says = sound (graph f) Goal (λ y. ℕ-discrete y g) T made

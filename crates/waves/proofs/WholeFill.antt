@@ -1,0 +1,165 @@
+-- From the map to the table: the loaded work array is the floor, so what the waves leave is the shortest lengths, and what is stored says so.
+-- Assumes nothing.
+use mathlib.Core.Path.{_≡_, refl, ap, ap₂, sym, subst, subst₂, _∙_}
+use mathlib.Core.Logic.{_⊎_, inl, inr}
+use mathlib.Core.Bool.{Bool, true, false}
+use mathlib.Core.List.{List, [], _∷_}
+use Prim.Native.Nat.{ℕ, zero, suc, _+_, _-_, _*_, _/_, _%_, _≤_, _<_}
+use native.Mathlib.Omega.{arith}
+use native.Mathlib.Nat.{mod-lt}
+use lib.ListN.{getD, length, set, length-set, replicate, length-replicate, getD-replicate, List·getD-eq-default}
+use native.Mathlib.Decide.{decLe}
+use lib.Seq.{getD-set-same}
+use lib.Dec.{T as Holds}
+use borrow.Author.Tests.{lt-ltb}
+use Rattle.lengths.proofs.Keys.{straightKey}
+use Rattle.floor.specs.Floor.{Map, open?, cells}
+use Rattle.floor.specs.Inner.{openPast}
+use Rattle.floor.specs.Step.{stepsOf}
+use Rattle.floor.specs.Way.{Only}
+use Rattle.floor.proofs.Leads.{open-column, open-row, floor, Past, past}
+use Rattle.entries.specs.Filled.{Filled}
+use Rattle.waves.specs.Work.{unreached, stride, largest, at, spot, Inside}
+use Rattle.waves.specs.Solved.{Loaded, Solved}
+use Rattle.waves.specs.Load.{numberOf, loaded, Prefix}
+use Rattle.waves.specs.Store.{entryOf, Storable, Stored}
+use Rattle.waves.specs.Fill.{Fillable, Scratch}
+use Rattle.waves.proofs.Changed.{each}
+use Rattle.waves.proofs.OnWork.{Mapped}
+use Rattle.waves.proofs.Shortest.{keyed, says}
+use Rattle.waves.proofs.MapLoaded.{prefix-all}
+
+-- what is read inside a list does not depend on what stands for the rest
+getD-any : (t : List ℕ) (y d e : ℕ) → y < length t → getD t y d ≡ getD t y e
+getD-any [] y d e h = absurd (omega arith)
+getD-any (v ∷ t) zero d e h = refl
+getD-any (v ∷ t) (suc y) d e h = getD-any t y d e (omega arith)
+
+number-holds : (t : Bool) → 0 < numberOf t → Holds t
+number-holds true o = tt
+number-holds false o = absurd (omega arith)
+
+number-kinds : (t : Bool) → (numberOf t ≡ 0) ⊎ (numberOf t ≡ unreached)
+number-kinds true = inr refl
+number-kinds false = inl refl
+
+holds-number : (t : Bool) → Holds t → 0 < numberOf t
+holds-number true t = omega arith
+holds-number false t = absurd t
+
+-- a place of a cell is read back
+loaded-spot : (m : Map) (c r : ℕ) → c + 1 < stride → loaded m (spot c r) ≡ numberOf (open? m c r)
+unfolding loaded openPast
+loaded-spot m c r k =
+    let e : spot c r % stride ≡ suc c = omega arith in
+    let f : spot c r / stride ≡ suc r = omega arith in
+    let c′ : suc c - 1 ≡ c = omega arith in
+    let r′ : suc r - 1 ≡ r = omega arith in
+    ap₂ (λ (u v : ℕ). numberOf (openPast m u v)) e f ∙ rw (lt-ltb 0 (suc c) (omega arith), lt-ltb 0 (suc r) (omega arith), c′, r′)
+
+module _ (m : Map) (goal entries : ℕ) (a : Fillable m goal entries) (x : List ℕ) (p : Prefix m (spot 0 (m .height)) x) where
+  abbrev g : ℕ
+  g = spot (goal % m .width) (goal / m .width)
+
+  abbrev x′ : List ℕ
+  x′ = set x g straightKey
+
+  gc : goal % m .width < m .width
+  gc = mod-lt goal (a .sound .some-wide)
+
+  gr : goal / m .width < m .height
+  gr = open-row m (goal % m .width) (goal / m .width) (a .chosen .free)
+
+  pub goal-on : g < length x
+  goal-on = omega (arith, p .tall, gc, gr, a .sound .wide)
+
+  loaded-value : (z : ℕ) → at x z ≡ loaded m z
+  loaded-value = prefix-all m (a .sound) x p
+
+  -- a cell with a number is open
+  behind : (z : ℕ) → 0 < at x′ z → Past m (z % stride) (z / stride)
+  unfolding loaded
+  behind = each x g straightKey goal-on (λ z v. 0 < v → Past m (z % stride) (z / stride)) (λ o. at-goal) (λ z e o. on z o)
+    where
+      on : (z : ℕ) → 0 < at x z → Past m (z % stride) (z / stride)
+      on z o = past m (z % stride) (z / stride) (number-holds (openPast m (z % stride) (z / stride)) (subst (λ (v : ℕ). 0 < v) (loaded-value z) o))
+
+      at-goal : Past m (g % stride) (g / stride)
+      at-goal =
+          let n = a .sound .wide in
+          let k = gc in
+          let e : goal % m .width ≡ g % stride - 1 = omega arith in
+          let f : goal / m .width ≡ g / stride - 1 = omega arith in
+          record { column = omega arith; row = omega arith; «open» = subst₂ (λ (u v : ℕ). Holds (open? m u v)) e f (a .chosen .free) }
+
+  border : (z : ℕ) → 0 < at x′ z → Inside x′ z
+  border z o =
+      let q = behind z o in
+      let c = open-column m _ _ (q .«open») in
+      let r = open-row m _ _ (q .«open») in
+      let n = a .sound .wide in
+      record { low = omega (arith, q .column, q .row); high = omega (arith, q .column, q .row, p .tall, length-set x g straightKey) }
+
+  pub ready : (q : List ℕ) → length x ≤ largest → length q ≡ length x + 1 → Loaded x′ q g
+  unfolding loaded
+  ready q few size = record {
+    few = omega (arith, length-set x g straightKey);
+    places = omega (arith, length-set x g straightKey);
+    start = getD-set-same x g straightKey 0 goal-on;
+    kinds = each x g straightKey goal-on (λ z v. (z ≡ g) ⊎ ((v ≡ 0) ⊎ (v ≡ unreached))) (inl refl) (λ z e. inr (kinds z));
+    border = border;
+  }
+    where
+      kinds : (z : ℕ) → (at x z ≡ 0) ⊎ (at x z ≡ unreached)
+      kinds z = subst (λ (v : ℕ). (v ≡ 0) ⊎ (v ≡ unreached)) (sym (loaded-value z)) (number-kinds (openPast m (z % stride) (z / stride)))
+
+  mapped : Mapped (floor m) x′
+  mapped = record {
+    narrow = a .sound .wide;
+    free = λ c r o. each x g straightKey goal-on (λ z v. z ≡ spot c r → 0 < v) (λ e. omega arith) (λ z d e. numbered c r o z e) (spot c r) refl;
+    column = λ z o. z % stride - 1;
+    row = λ z o. z / stride - 1;
+    opened = λ z o. behind z o .«open»;
+    place = λ z o. let q = behind z o in omega (arith, q .column, q .row);
+  }
+    where
+      numbered : (c r : ℕ) → Holds (open? m c r) → (z : ℕ) → z ≡ spot c r → 0 < at x z
+      numbered c r o z e =
+          let n = a .sound .wide in
+          let k = open-column m c r o in
+          subst (λ (v : ℕ). 0 < v) (sym (ap (at x) e ∙ loaded-value (spot c r) ∙ loaded-spot m c r (omega arith))) (holds-number (open? m c r) o)
+
+  module _ (x″ : List ℕ) (s : Solved x′ g x″) where
+    pub storable : Storable (m .width) (m .height) x″
+    storable = record {
+      wide = a .sound .wide;
+      high = a .sound .high;
+      tall = omega (arith, p .tall, s .cells, length-set x g straightKey);
+      all = λ z. record { keyed = keyed x′ g x″ s z; below = s .below z };
+    }
+
+    pub filled : (t : List ℕ) → Stored (m .width) (m .height) x″ (cells m) t → Filled (stepsOf m) (Only goal) (cells m) t
+    filled t st = record {
+      size = st .size;
+      entries = λ y k. record {
+        what = entryOf (at x″ (spot (y % m .width) (y / m .width)));
+        says = says (floor m) (a .sound .some-wide) x′ x″ mapped goal s y;
+        same = getD-any t y 4294967295 0 (omega (arith, st .size)) ∙ st .done y k;
+      };
+    }
+
+-- new scratch: the arrays are made of zeros
+pub scratch : (m : Map) (n : ℕ) → n ≤ largest → (m .height + 2) * stride ≤ n → Scratch m (replicate n 0) (replicate (n + 1) 0)
+scratch m n few tall = record {
+  cleared = record { done = λ z. by z (decLe (suc z) n) };
+  tall = record { rows = omega (arith, size) };
+  few = omega (arith, size);
+  places = length-replicate {A = ℕ} (n + 1) 0 ∙ ap (λ (k : ℕ). k + 1) (sym size);
+}
+  where
+    size : length (replicate {A = ℕ} n 0) ≡ n
+    size = length-replicate n 0
+
+    by : (z : ℕ) → Dec (z < n) → at (replicate n 0) z ≡ 0
+    by z (yes h) = getD-replicate n z 0 0 h
+    by z (no h) = let k : length (replicate {A = ℕ} n 0) ≤ z = omega (arith, size) in List·getD-eq-default (replicate n 0) 0 k

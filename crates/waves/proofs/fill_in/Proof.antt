@@ -1,0 +1,87 @@
+-- `waves::fill_in` meets its contract: the map is loaded, the goal is given its number, the waves leave the shortest lengths, and these are
+-- stored.
+-- Assumes nothing.
+use mathlib.Core.Path.{_∙_}
+use Prim.Native.Nat.{_+_, _*_, _/_, _%_, _<_}
+use native.Mathlib.Omega.{arith}
+use lib.ListN.{length-set}
+use borrow.Author.Needs.{needs}
+use Rattle.waves.specs.Work.{stride, largest}
+use Rattle.waves.proofs.MapLoaded.{prefix-none}
+use Rattle.waves.proofs.WholeFill.{goal-on, ready, storable, filled}
+use Rattle.waves.proofs.fill_in.Statement.{statement}
+use Rattle.waves.proofs.fill_in.Tie as tie
+
+load-map-requires : tie.Need-load-map-requires
+load-map-requires c κs =
+    let scratch = c .before .before .before .before .before .pre .0 in
+    let s = c .before .before .before .before .before .pre .1 .sound in
+    (s, prefix-none _ s _ (scratch .cleared) (scratch .tall))
+
+-- the goal's place is in the work array, which is not large
+inside : (c : tie.After-load-map) → (c .before .before .before .before .before .before .args .goal / c .before .before .before .before .before .before .args .width + 1) * stride + c .before .before .before .before .before .before .args .goal % c .before .before .before .before .before .before .args .width + 1 < largest
+inside c = omega (arith, goal-on _ _ _ (c .before .before .before .before .before .before .pre .1) _ (c .load-map .ensures), c .load-map .kept .0, c .before .before .before .before .before .before .pre .0 .few)
+
+div-place : tie.Need-div-place
+div-place c = search needs
+
+add-place : tie.Need-add-place
+add-place c = omega (arith, inside (c .before .before))
+
+mul-place : tie.Need-mul-place
+mul-place c = omega (arith, inside (c .before .before))
+
+rem-place : tie.Need-rem-place
+rem-place c = search needs
+
+add-place-2 : tie.Need-add-place-2
+add-place-2 c = omega (arith, inside (c .before .before))
+
+add-place-3 : tie.Need-add-place-3
+add-place-3 c = omega (arith, inside (c .before .before))
+
+mul-work : tie.Need-mul-work
+mul-work c = omega (arith, inside (c .before .before))
+
+slice-write-work : tie.Need-slice-write-work
+slice-write-work c = goal-on _ _ _ (c .before .before .before .before .before .before .before .before .pre .1) _ (c .before .before .load-map .ensures)
+
+all-waves-requires : tie.Need-all-waves-requires
+all-waves-requires c κs =
+    let k = c .before .before .before .before .load-map .kept .0 in
+    ready _ _ _ (c .before .before .before .before .before .before .before .before .before .before .pre .1) _ (c .before .before .before .before .load-map .ensures) _ (omega (arith, k, c .before .before .before .before .before .before .before .before .before .before .pre .0 .few)) (omega (arith, k, c .before .before .before .before .before .before .before .before .before .before .pre .0 .places))
+
+store-table-requires : tie.Need-store-table-requires
+store-table-requires c κs = (storable _ _ _ (c .before .before .before .before .before .before .before .before .before .before .before .before .before .before .before .before .before .pre .1) _ (c .before .before .before .before .before .before .before .before .before .before .before .load-map .ensures) _ (c .before .before .before .before .before .before .all-waves .ensures), c .before .before .before .before .before .before .before .before .before .before .before .before .before .before .before .before .before .pre .1 .table)
+
+same-length : tie.Need-same-length
+same-length c = (simp length-set at (c .before .before .before .before .before .before .before .before .before .all-waves .kept .0)) ∙ c .before .before .before .before .before .before .before .before .before .before .before .before .before .before .load-map .kept .0
+
+same-length-2 : tie.Need-same-length-2
+same-length-2 c = search needs
+
+same-length-3 : tie.Need-same-length-3
+same-length-3 c = search needs
+
+returns : tie.Need-returns
+returns c = filled _ _ _ (c .before .before .before .before .before .before .before .before .before .before .before .before .before .before .before .before .before .before .before .before .pre .1) _ (c .before .before .before .before .before .before .before .before .before .before .before .before .before .before .load-map .ensures) _ (c .before .before .before .before .before .before .before .before .before .all-waves .ensures) _ (c .before .before .store-table .ensures)
+
+pub fill-in-spec : {M : Type 1} → statement M
+fill-in-spec =
+    tie.close
+    (tie.spec
+    load-map-requires
+    div-place
+    add-place
+    mul-place
+    rem-place
+    add-place-2
+    add-place-3
+    mul-work
+    slice-write-work
+    all-waves-requires
+    store-table-requires
+    same-length
+    same-length-2
+    same-length-3
+    returns)

@@ -1,0 +1,30 @@
+-- `waves::loading::bit_of` meets its contract: a byte shifted down and masked is its bit.
+-- Assumes nothing.
+use lib.Bits.{and-mask}
+use borrow.Author.Needs.{needs}
+use Rattle.waves.proofs.loading.bit_of.Statement.{statement}
+use Rattle.waves.proofs.loading.bit_of.Tie as tie
+
+add-byte : tie.Need-add-byte
+add-byte c = search needs
+
+mul-byte : tie.Need-mul-byte
+mul-byte c = search needs
+
+add-byte-2 : tie.Need-add-byte-2
+add-byte-2 c = search needs
+
+shared-slice-read-result : tie.Need-shared-slice-read-result
+shared-slice-read-result c = search needs
+
+cast-result : tie.Need-cast-result
+cast-result c = search needs
+
+shr-result : tie.Need-shr-result
+shr-result c = search needs
+
+returns : tie.Need-returns
+returns c = and-mask _ 1
+
+pub bit-of-spec : {M : Type 1} → statement M
+bit-of-spec = tie.close (tie.spec add-byte mul-byte add-byte-2 shared-slice-read-result cast-result shr-result returns)

@@ -1,0 +1,80 @@
+-- `waves::passing::all_waves` meets its contract. The invariant: what holds between waves. No wave is empty, so there are no more waves than
+-- cells.
+-- Assumes nothing.
+use mathlib.Core.Path.{sym, _∙_}
+use Prim.Native.Nat.{_+_, _-_}
+use native.Mathlib.Omega.{arith}
+use borrow.Author.Needs.{needs}
+use lib.ListN.{length}
+use Rattle.waves.proofs.Kept.{Between}
+use Rattle.waves.proofs.FirstWave.{goal-inside, begin}
+use Rattle.waves.proofs.NextWave.{late-ready, this-ready, next}
+use Rattle.waves.proofs.LastWave.{solved}
+use Rattle.waves.proofs.passing.all_waves.Statement.{statement}
+use Rattle.waves.proofs.passing.all_waves.Tie as tie
+
+abbrev Inv-loop : tie.InvT-loop
+Inv-loop work₀ queue₀ goal prev₀ last₀ mid₀ tail₀ limit₀ work queue prev last mid tail limit =
+    Between work₀ goal prev last mid tail limit work queue
+
+abbrev μ-loop : tie.MeasureT-loop
+μ-loop work₀ queue₀ goal prev₀ last₀ mid₀ tail₀ limit₀ work queue prev last mid tail limit = length work₀ + 1 - mid
+
+cast-queue : tie.Need-cast-queue Inv-loop μ-loop
+cast-queue c = omega (arith, goal-inside _ _ _ (c .before .before .pre), c .before .before .pre .few)
+
+slice-write-queue : tie.Need-slice-write-queue Inv-loop μ-loop
+slice-write-queue c = search needs
+
+mul-limit : tie.Need-mul-limit Inv-loop μ-loop
+mul-limit c = search needs
+
+loop-holds : tie.Need-loop-holds Inv-loop μ-loop
+loop-holds c = begin (c .before .before .args .work .now) (c .before .before .args .queue .now) (c .before .before .args .goal) (c .before .before .pre)
+
+late-steps-requires : tie.Need-late-steps-requires Inv-loop μ-loop
+late-steps-requires c κs = record { wave = _; ready = late-ready _ _ _ _ _ _ _ _ _ (c .before .before .before .loop .inv) (c .before .before .loop-test .taken) }
+
+this-steps-requires : tie.Need-this-steps-requires Inv-loop μ-loop
+this-steps-requires c κs = record {
+  wave = _;
+  ready = this-ready _ _ _ _ _ _ _ _ _ (c .before .before .before .before .before .before .before .before .before .before .loop .inv) (c .before .before .before .before .before .before .before .before .before .loop-test .taken) _ _ _ (c .before .before .before .before .before .before .late-steps .ensures);
+}
+
+add-limit : tie.Need-add-limit Inv-loop μ-loop
+add-limit c = let i = c .before .before .before .before .before .before .before .before .before .before .before .before .before .before .before .loop .inv in omega (arith, i .count, i .going .room, c .before .before .before .before .before .before .before .before .before .before .before .before .before .before .loop-test .taken)
+
+loop-less : tie.Need-loop-less Inv-loop μ-loop
+loop-less c = let g = c .before .before .before .before .before .before .before .before .before .before .before .before .before .before .before .loop .inv .going in omega (arith, g .room, g .cells, c .before .before .before .before .before .before .before .before .before .before .before .before .before .before .loop-test .taken)
+
+loop-again : tie.Need-loop-again Inv-loop μ-loop
+loop-again c =
+    next _ _ _ _ _ _ _ _ _ (c .before .before .before .before .before .before .before .before .before .before .before .before .before .before .before .loop .inv) (c .before .before .before .before .before .before .before .before .before .before .before .before .before .before .loop-test .taken) _ _ _ (c .before .before .before .before .before .before .before .before .before .before .before .late-steps .ensures) _ _ _ _ (c .before .before .before .before .this-steps .ensures)
+
+same-length : tie.Need-same-length Inv-loop μ-loop
+same-length c = c .before .loop .inv .going .cells
+
+same-length-2 : tie.Need-same-length-2 Inv-loop μ-loop
+same-length-2 c = let g = c .before .loop .inv .going in omega (arith, g .cells, g .room .places, c .before .before .before .before .pre .places)
+
+returns : tie.Need-returns Inv-loop μ-loop
+returns c = solved _ _ _ _ _ _ _ _ _ (c .before .loop .inv) (c .loop-test .left)
+
+pub all-waves-spec : {M : Type 1} → statement M
+all-waves-spec =
+    tie.close
+    (tie.spec
+    Inv-loop
+    μ-loop
+    cast-queue
+    slice-write-queue
+    mul-limit
+    loop-holds
+    late-steps-requires
+    this-steps-requires
+    add-limit
+    loop-less
+    loop-again
+    same-length
+    same-length-2
+    returns)

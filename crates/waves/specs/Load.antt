@@ -1,0 +1,43 @@
+-- The map's bytes in the work array, place after place.
+-- Assumes nothing.
+use mathlib.Core.Path.{_≡_}
+use mathlib.Core.Bool.{Bool, true, false}
+use mathlib.Core.List.{List}
+use Prim.Native.Nat.{ℕ, _+_, _*_, _/_, _%_, _≤_, _<_}
+use lib.ListN.{getD, length}
+use Rattle.floor.specs.Floor.{Map, bytesPerRow, bit}
+use Rattle.floor.specs.Inner.{openPast}
+use Rattle.waves.specs.Work.{unreached, stride, at}
+
+-- the number of an open and of a blocked cell
+abbrev pub numberOf : Bool → ℕ
+numberOf true = unreached
+numberOf false = 0
+
+-- what stands at a place of the work array when the map is loaded
+unfoldable pub loaded : Map → ℕ → ℕ
+loaded m z = numberOf (openPast m (z % stride) (z / stride))
+
+-- the bit of the cell in column c and row r of a map of this width
+abbrev pub bitAt : (width : ℕ) (bytes : List ℕ) (c r : ℕ) → ℕ
+bitAt width bytes c r = bit (c % 8) (getD bytes (r * bytesPerRow width + c / 8) 0)
+
+-- that bit stands in the map
+pub record OnMap (width : ℕ) (bytes : List ℕ) (c r : ℕ) : Type 0 where
+  pub wide : width ≤ 128
+  pub high : r < 128
+  pub byte : r * bytesPerRow width + c / 8 < length bytes
+
+-- the work array has the floor's rows and a border row before and after them
+pub record Tall (m : Map) (x : List ℕ) : Type 0 where
+  pub rows : (m .height + 2) * stride ≤ length x
+
+-- the places below n are loaded, and the others are blocked
+pub record Prefix (m : Map) (n : ℕ) (x : List ℕ) : Type 0 where
+  pub tall : Tall m x
+  pub done : (z : ℕ) → z < n → at x z ≡ loaded m z
+  pub rest : (z : ℕ) → n ≤ z → at x z ≡ 0
+
+-- an array of blocked cells
+pub record Cleared (x : List ℕ) : Type 0 where
+  pub done : (z : ℕ) → at x z ≡ 0

@@ -1,0 +1,42 @@
+-- The work array's numbers as a table's entries.
+-- Assumes nothing.
+use mathlib.Core.Path.{_≡_}
+use mathlib.Core.List.{List}
+use Prim.Native.Nat.{ℕ, suc, _+_, _-_, _*_, _/_, _%_, _≤_, _<_}
+use native.Mathlib.Decide.{decLe, ℕ-discrete}
+use lib.ListN.{getD, length}
+use Rattle.lengths.specs.declared.Length.{Length}
+use Rattle.lengths.proofs.Keys.{straightKey, key, pair}
+use Rattle.entries.specs.Entry.{Entry, mark, long, pack}
+use Rattle.waves.specs.Work.{unreached, stride, highest, at, spot}
+
+-- the entry that a number stands for: the mark for 0 and `unreached`, else the length
+abbrev pub entryBy : (v : ℕ) → Dec (v ≡ 0) → Dec (v < unreached) → Entry
+entryBy v (yes e) b = mark
+entryBy v (no e) (yes b) = long (pair (v - straightKey))
+entryBy v (no e) (no b) = mark
+
+unfoldable pub entryOf : ℕ → Entry
+entryOf v = entryBy v (ℕ-discrete v 0) (decLe (suc v) unreached)
+
+-- a number that stands for a length
+pub record Keyed (v : ℕ) : Type 0 where
+  pub length : Length
+  pub sum : v ≡ straightKey + key length
+
+-- a number that the waves can leave
+pub record Readable (v : ℕ) : Type 0 where
+  pub keyed : 0 < v → v < unreached → Keyed v
+  pub below : v < unreached → v < highest
+
+-- a work array of a floor of this width and height, as the waves leave it
+pub record Storable (width height : ℕ) (x : List ℕ) : Type 0 where
+  pub wide : width ≤ 128
+  pub high : height ≤ 128
+  pub tall : (height + 2) * stride ≤ length x
+  pub all : (z : ℕ) → Readable (at x z)
+
+-- the entries of the cells below n are stored
+pub record Stored (width height : ℕ) (x : List ℕ) (n : ℕ) (t : List ℕ) : Type 0 where
+  pub size : length t ≡ height * width
+  pub done : (y : ℕ) → y < n → getD t y 0 ≡ pack (entryOf (at x (spot (y % width) (y / width))))

@@ -1,0 +1,77 @@
+-- What the waves keep. A wave is one straight step wide: its cells are settled before its steps are taken, and what they reach lies in the
+-- next wave, whatever the order.
+-- Assumes nothing.
+use mathlib.Core.Path.{_≡_}
+use mathlib.Core.Logic.{_⊎_}
+use mathlib.Core.List.{List}
+use Prim.Native.Nat.{ℕ, _+_, _≤_, _<_}
+use lib.ListN.{getD, length}
+use Rattle.lengths.proofs.Keys.{straightKey}
+use Rattle.waves.specs.Work.{unreached, at, cost, Inside, WorkStep, Room}
+
+-- a wave: the floor as it was loaded, and the goal's place; where the next wave's cells begin in the queue; and the number at which this
+-- wave ends
+pub record Wave : Type 0 where
+  pub floor : List ℕ
+  pub goal : ℕ
+  pub end : ℕ
+  pub limit : ℕ
+
+-- z with the number v was reached by a step from a settled cell
+pub record Support (w : Wave) (x : List ℕ) (z v : ℕ) : Type 0 where
+  pub heading : ℕ
+  pub cell : ℕ
+  pub step : WorkStep (w .floor) heading cell z
+  pub near : at x cell < w .limit
+  pub sum : v ≡ at x cell + cost heading
+
+-- z stands in the queue, from low on and before high
+pub record Listed (q : List ℕ) (low high z : ℕ) : Type 0 where
+  pub index : ℕ
+  pub here : getD q index 0 ≡ z
+  pub after : low ≤ index
+  pub before : index < high
+
+-- z was reached
+pub record Reached (x : List ℕ) (z : ℕ) : Type 0 where
+  pub free : 0 < at x z
+  pub found : at x z < unreached
+
+-- z was reached, in the next wave
+pub record Next (w : Wave) (x : List ℕ) (z : ℕ) : Type 0 where
+  pub after : w .limit ≤ at x z
+  pub found : at x z < unreached
+
+-- what holds while a wave's steps are taken
+pub record Going (w : Wave) (x q : List ℕ) (t : ℕ) : Type 0 where
+  -- open cells are not on the border
+  pub border : (z : ℕ) → 0 < at (w .floor) z → Inside (w .floor) z
+  -- the work array is as large as it was
+  pub cells : length x ≡ length (w .floor)
+  -- the queue has room for all that wait
+  pub room : Room x q t
+  -- the next wave's cells begin before the queue's end
+  pub order : w .end ≤ t
+  -- no number is above that of a cell that is not reached
+  pub kinds : (z : ℕ) → at x z ≤ unreached
+  -- blocked cells and no others are 0
+  pub free : (z : ℕ) → 0 < at (w .floor) z → 0 < at x z
+  pub shut : (z : ℕ) → at (w .floor) z ≡ 0 → at x z ≡ 0
+  -- the goal has length (0, 0)
+  pub start : at x (w .goal) ≡ straightKey
+  -- everything reached lies below the next wave's end
+  pub below : (z : ℕ) → at x z < unreached → at x z < w .limit + straightKey
+  -- every reached cell but the goal has a settled neighbour whose number and the step make its own
+  pub support : (z : ℕ) → 0 < at x z → at x z < unreached → (z ≡ w .goal) ⊎ Support w x z (at x z)
+  -- no step that ends below this wave's end would lower a cell
+  pub relaxed : (h a b : ℕ) → WorkStep (w .floor) h a b → at x a + cost h < w .limit → at x b ≤ at x a + cost h
+  -- from the wave's end on, the queue has the cells of the next wave and no others
+  pub listed : (z : ℕ) → w .limit ≤ at x z → at x z < unreached → Listed q (w .end) t z
+  pub queued : (i : ℕ) → w .end ≤ i → i < t → Next w x (getD q i 0)
+
+-- what steps do to the cells: none rises, settled ones stay, none falls into this wave, and the queue stays up to the wave's end
+pub record Falls (w : Wave) (x q x′ q′ : List ℕ) : Type 0 where
+  pub low : (z : ℕ) → at x′ z ≤ at x z
+  pub keep : (z : ℕ) → at x z < w .limit → at x′ z ≡ at x z
+  pub high : (z : ℕ) → w .limit ≤ at x z → w .limit ≤ at x′ z
+  pub queue : (i : ℕ) → i < w .end → getD q′ i 0 ≡ getD q i 0

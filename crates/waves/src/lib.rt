@@ -1,0 +1,85 @@
+// Filling a length table by waves, from the map's bytes to the table's entries.
+// The work array has a number for each cell of the floor and of a border of blocked cells around it: the cell in column c and row r stands
+// at (r + 1) * 130 + c + 1. 0: blocked, or off the floor. UNREACHED: open, and not reached. Else 13860 * (straight + 1) + 19601 * diagonal
+// of the length found: lengths are ordered by this number. A wave is one straight step wide: when it begins, all below its end is settled.
+ghost use mathlib.Core.Path.{_≡_};
+ghost use Prim.Native.Nat.{_*_, _≤_};
+ghost use lib.ListN.{length};
+ghost use Rattle.floor.specs.Floor.{mapOf, cells};
+ghost use Rattle.floor.specs.Inner.{Sound};
+ghost use Rattle.floor.specs.Step.{stepsOf};
+ghost use Rattle.floor.specs.Way.{Only};
+ghost use Rattle.entries.specs.Filled.{Filled};
+ghost use Rattle.waves.specs.Fill.{OpenGoal, Fillable, Scratch};
+
+mod loading;
+mod offering;
+mod passing;
+mod storing;
+
+// The number of an open cell that is not reached.
+pub const UNREACHED: u32 = 2147483648;
+
+// What a straight and a diagonal step add to a number.
+pub const STRAIGHT: u32 = 13860;
+
+pub const DIAGONAL: u32 = 19601;
+
+// How far apart the rows of the work array are.
+pub const STRIDE: usize = 130;
+
+// Fills the table over lent scratch.
+fn fill_in(
+    work: &mut [u32],
+    queue: &mut [u16],
+    width: usize,
+    height: usize,
+    map: &[u8],
+    goal: usize,
+    table: &mut [u32],
+)
+    requires { ⌜ Scratch (mapOf width height (now map)) (now work) (now queue) ⌝ }
+    requires { ⌜ Fillable (mapOf width height (now map)) goal (length (now table)) ⌝ }
+    ensures { λ r. ⌜ Filled (stepsOf (mapOf width height (now (map .entry)))) (Only goal) (cells (mapOf width height (now (map .entry)))) (now (table .exit)) ⌝ }
+{
+    loading::load_map(work, width, height, map);
+    let place = (goal / width + 1) * STRIDE + goal % width + 1;
+    work[place] = STRAIGHT;
+    passing::all_waves(work, queue, place);
+    storing::store_table(work, width, height, table);
+}
+
+// Fills the table of a floor of up to 18 rows.
+fn fill_low(width: usize, height: usize, map: &[u8], goal: usize, table: &mut [u32])
+    requires { ⌜ height ≤ 18 ⌝ }
+    requires { ⌜ Fillable (mapOf width height (now map)) goal (length (now table)) ⌝ }
+    ensures { λ r. ⌜ Filled (stepsOf (mapOf width height (now (map .entry)))) (Only goal) (cells (mapOf width height (now (map .entry)))) (now (table .exit)) ⌝ }
+{
+    let mut work = [0u32; 2600];
+    let mut queue = [0u16; 2601];
+    fill_in(&mut work, &mut queue, width, height, map, goal, table);
+}
+
+// Fills the table of any floor.
+fn fill_any(width: usize, height: usize, map: &[u8], goal: usize, table: &mut [u32])
+    requires { ⌜ Fillable (mapOf width height (now map)) goal (length (now table)) ⌝ }
+    ensures { λ r. ⌜ Filled (stepsOf (mapOf width height (now (map .entry)))) (Only goal) (cells (mapOf width height (now (map .entry)))) (now (table .exit)) ⌝ }
+{
+    let mut work = [0u32; 16900];
+    let mut queue = [0u16; 16901];
+    fill_in(&mut work, &mut queue, width, height, map, goal, table);
+}
+
+// Fills the table: each entry is the shortest length from its cell to the goal, or the mark.
+pub fn fill_table(width: usize, height: usize, map: &[u8], goal: usize, table: &mut [u32])
+    requires { ⌜ Sound (mapOf width height (now map)) ⌝ }
+    requires { ⌜ OpenGoal (mapOf width height (now map)) goal ⌝ }
+    requires { ⌜ length (now table) ≡ height * width ⌝ }
+    ensures { λ r. ⌜ Filled (stepsOf (mapOf width height (now (map .entry)))) (Only goal) (cells (mapOf width height (now (map .entry)))) (now (table .exit)) ⌝ }
+{
+    if height <= 18 {
+        fill_low(width, height, map, goal, table);
+    } else {
+        fill_any(width, height, map, goal, table);
+    }
+}
