@@ -13,11 +13,11 @@ use Rattle.lengths.specs.Order.{zeroLength, _⊕_, steps}
 use Rattle.floor.specs.Way.{Graph, Way, stay, step, Shortest}
 use Rattle.floor.proofs.Ways.{shortest-unique, tail-shortest}
 use Rattle.walking.specs.Route as walk
-use Rattle.walking.specs.Route.{Before, FirstRoute, Walk}
+use Rattle.walking.specs.Route.{Before, FirstRoute, ShortRoute, Walk}
 use Rattle.walking.proofs.Greedy.{OnShort, Follows, arrived, take, follows-shortest, goal-stays, goal-zero}
 
 -- a walk is a way, and a way has a walk
-pub walk-way : {G : Graph} {x y : ℕ} {hs : List ℕ} {l : Length} → Walk G x y hs l → Way G x y l
+walk-way : {G : Graph} {x y : ℕ} {hs : List ℕ} {l : Length} → Walk G x y hs l → Way G x y l
 walk-way walk.stay = stay
 walk-way (walk.step s w) = step s (walk-way w)
 
@@ -85,24 +85,34 @@ module _ (G : Graph) (Goal : ℕ → Type 0) (rank : ℕ → ℕ) (one-way : (h 
         first = λ ks m r. none-before f (r .goal) (r .walk) (r .short);
       }
 
+-- a step on a shortest way, before a shortest route
+one-before : {G : Graph} {Goal : ℕ → Type 0} {h x y : ℕ} {hs : List ℕ} {l : Length} → OnShort G Goal h x y → ShortRoute G Goal y hs l
+    → ShortRoute G Goal x (h ∷ hs) (l ⊕ G .weight h)
+one-before {G} {Goal} {h} {x} o r = record {
+  end = r .end;
+  goal = r .goal;
+  walk = walk.step (o .step) (r .walk);
+  short = subst (λ (z : Length). Shortest G Goal x (z ⊕ G .weight h)) (shortest-unique (o .there) (r .short)) (o .here);
+}
+
 -- and the first route is the greedy walk
 pub first-follows : (G : Graph) (Goal : ℕ → Type 0) (rank : ℕ → ℕ) {x : ℕ} {hs : List ℕ} {l : Length} → FirstRoute G Goal rank x hs l → Follows G Goal rank x hs l
 first-follows G Goal rank f = by (f .route .goal) (f .route .walk) (f .route .short) (f .first)
   where
     by : {x g : ℕ} {hs : List ℕ} {l : Length} → Goal g → Walk G x g hs l → Shortest G Goal x l
-        → ((ks : List ℕ) (m : Length) → walk.ShortRoute G Goal x ks m → ¬ Before rank ks hs) → Follows G Goal rank x hs l
+        → ((ks : List ℕ) (m : Length) → ShortRoute G Goal x ks m → ¬ Before rank ks hs) → Follows G Goal rank x hs l
     by gg walk.stay s first = arrived gg
-    by {g = g} gg (walk.step {h = h} {x = x} {y = y} {hs = hs} {l = l} t w) s first =
-        let short = tail-shortest G gg t (walk-way w) s in
+    by gg (walk.step {h = h} {x = x} {y = y} {l = l} t w) s first =
+        let on : OnShort G Goal h x y = record { step = t; rest = l; there = tail-shortest G gg t (walk-way w) s; here = s } in
         take
         (record {
-          on = record { step = t; rest = l; there = short; here = s };
+          on = on;
           none-lower = λ k z p o.
               let (e, ee, v) = o .there .way in
               let (ks, u) = way-walk v in
-              first (k ∷ ks) _ (record { end = e; goal = ee; walk = walk.step (o .step) u; short = o .here }) (walk.lower p);
+              first (k ∷ ks) _ (one-before o (record { end = e; goal = ee; walk = u; short = o .there })) (walk.lower p);
         })
-        (by gg w short (λ ks m r b. first (h ∷ ks) _ (record { end = r .end; goal = r .goal; walk = walk.step t (r .walk); short = subst (λ (z : Length). Shortest G Goal x z) (ap (λ (z : Length). z ⊕ G .weight h) (shortest-unique short (r .short))) s }) (walk.same b)))
+        (by gg w (on .there) (λ ks m r b. first (h ∷ ks) _ (one-before on r) (walk.same b)))
 
 -- at a goal the first route has no step
 pub first-there : {G : Graph} {Goal : ℕ → Type 0} {rank : ℕ → ℕ} {x : ℕ} {hs : List ℕ} {l : Length} → Goal x → FirstRoute G Goal rank x hs l → (hs ≡ []) × (l ≡ zeroLength)

@@ -3,7 +3,7 @@
 -- Assumes nothing.
 use mathlib.Core.Path.{_≡_, refl, ap, subst, _∙_}
 use mathlib.Core.List.{List, [], _∷_}
-use Prim.Native.Nat.{ℕ, _+_, _<_}
+use Prim.Native.Nat.{ℕ, _<_}
 use native.Mathlib.Omega.{arith}
 use Rattle.lengths.specs.declared.Length.{Length}
 use Rattle.lengths.specs.Order.{zeroLength, _⊕_, steps}
@@ -50,7 +50,7 @@ module _ (G : Graph) (Goal : ℕ → Type 0) (T : ℕ → Entry) (right : (x : �
   pub on-entries : {h x y : ℕ} → G .Step h x y → (m : Length) → T y ≡ long m → T x ≡ long (m ⊕ G .weight h) → OnShort G Goal h x y
   on-entries s m q p = record { step = s; rest = m; there = says q; here = says p }
 
-  pub shortest-entry : (x : ℕ) (l : Length) → Shortest G Goal x l → T x ≡ long l
+  shortest-entry : (x : ℕ) (l : Length) → Shortest G Goal x l → T x ≡ long l
   shortest-entry x l short = by (T x) refl
     where
       by : (e : Entry) → T x ≡ e → T x ≡ long l

@@ -2,7 +2,7 @@
 -- Assumes nothing.
 use mathlib.Core.Path.{_≡_, refl, ap, sym, subst, _∙_}
 use mathlib.Core.List.{List, [], _∷_}
-use Prim.Native.Nat.{ℕ, zero, suc, _+_, _*_, _<_}
+use Prim.Native.Nat.{ℕ, zero, suc, _*_, _<_}
 use native.Mathlib.Omega.{arith}
 use lib.ListN.{getD}
 use Rattle.lengths.specs.declared.Length.{Length}
@@ -14,7 +14,7 @@ use Rattle.entries.specs.Entry.{Entry, mark, long, pack}
 use Rattle.entries.specs.Filled.{Says, Filled}
 use Rattle.walking.specs.Route as walk
 use Rattle.walking.specs.Route.{Walk}
-use Rattle.walking.specs.Legs.{Leg, Legs, again, join}
+use Rattle.walking.specs.Legs.{Leg, again, join}
 use Rattle.walking.specs.Read.{Routes}
 
 -- so many steps of one kind

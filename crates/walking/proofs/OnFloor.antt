@@ -46,7 +46,8 @@ pub leg-short : (m : Map) → Sound m → (n h : ℕ) (hs t : List ℕ) (at : �
 leg-short m c n h hs t at r = let (y, w) = run-walk m r in run-short (floor m) (c .wide) (c .high) n h hs w
 
 -- two first routes are the same, if no two headings have one rank
-pub route-unique : (m : Map) (rank : ℕ → ℕ) → ((h k : ℕ) → h < 8 → k < 8 → rank h ≡ rank k → h ≡ k) → {Goal : ℕ → Type 0} {x : ℕ} {hs ks : List ℕ} {a b : Length}
+pub route-unique : (m : Map) (rank : ℕ → ℕ) → ((h k : ℕ) → h < 8 → k < 8 → rank h ≡ rank k → h ≡ k)
+    → {Goal : ℕ → Type 0} {x : ℕ} {hs ks : List ℕ} {a b : Length}
     → FirstRoute (stepsOf m) Goal rank x hs a → FirstRoute (stepsOf m) Goal rank x ks b → hs ≡ ks
 route-unique m rank apart {Goal} = first-unique (stepsOf m) Goal rank (one-way (floor m)) (λ h k x y z s t. apart h k (s .heading) (t .heading))
 
@@ -60,14 +61,14 @@ module _ (m : Map) (c : Sound m) (goal : ℕ) (on : goal < cells m) (t : List �
   few-cells : cells m ≤ 16384
   few-cells = omega (arith, mul-le-mul (c .high) (c .wide))
 
-  pub right : (x : ℕ) → Says (stepsOf m) (Only goal) x (entryAt t x)
+  right : (x : ℕ) → Says (stepsOf m) (Only goal) x (entryAt t x)
   right = filled-says (stepsOf m) (Only goal) goal? (cells m) few-cells (inside (floor m)) goal-inside t (f .size) f
 
   well : (x : ℕ) → x < cells m → malformed (getD t x 4294967295) ≡ false
   well x b = filled-right (stepsOf m) (Only goal) goal? (cells m) few-cells (inside (floor m)) goal-inside t (f .size) f x b .formed
 
   -- a cell's number, as the code reads it, is its entry packed
-  pub number-is : (x : ℕ) → x < cells m → getD t x 0 ≡ pack (entryAt t x)
+  number-is : (x : ℕ) → x < cells m → getD t x 0 ≡ pack (entryAt t x)
   number-is x b = getD-any t x 0 4294967295 (omega (arith, f .size)) ∙ sym (pack-read (getD t x 4294967295) (well x b))
 
   has-length : (x : ℕ) → x < cells m → getD t x 0 ≢ 4294967295 → (a : Length) × (entryAt t x ≡ long a)

@@ -128,7 +128,8 @@ module _ (lead : ℕ → ℕ → Lead) (table : List ℕ) where
         by (goes p t low) = let (y, q, e) = fits-yes x (go x) t in absurd (omega (arith, cost-pos (go x)))
     ends (suc n) x b = by (next-is x) (λ y c. ends n y c)
       where
-        by : Next x → ((y : ℕ) → getD table y 0 ≤ n → (hs : List ℕ) × (l : Length) × Run lead table (o .at) y hs l) → (hs : List ℕ) × (l : Length) × Run lead table (o .at) x hs l
+        by : Next x → ((y : ℕ) → getD table y 0 ≤ n → (hs : List ℕ) × (l : Length) × Run lead table (o .at) y hs l)
+            → (hs : List ℕ) × (l : Length) × Run lead table (o .at) x hs l
         by (stop e all) ih = ([], zeroLength, done e)
         by (goes p t low) ih =
             let (y, q, e) = fits-yes x (go x) t in

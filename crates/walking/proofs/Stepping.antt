@@ -9,9 +9,8 @@ use lib.ListN.{getD}
 use Rattle.lengths.specs.declared.Length.{Length}
 use Rattle.lengths.specs.Order.{_⊕_, steps}
 use Rattle.lengths.proofs.Order.{length-ext}
-use Rattle.floor.specs.declared.Lead.{Lead}
 use Rattle.floor.specs.declared.Lead.the-variants.{To, Nowhere}
-use Rattle.floor.specs.Floor.{Map, cells}
+use Rattle.floor.specs.Floor.{Map}
 use Rattle.floor.specs.Heading.{weight}
 use Rattle.floor.specs.Inner.{Sound, leadOf}
 use Rattle.floor.specs.Step.{one-step}
@@ -29,6 +28,14 @@ pub one-diagonal : (l : Length) (h : ℕ) → (h % 2 ≡ 0 → ⊥) → record {
 one-diagonal l h n = let e : h % 2 ≡ 1 = omega arith in rw e (length-ext (omega arith) refl)
 
 module _ (m : Map) (t : List ℕ) (o : Order) where
+  -- the next heading is one of the eight, or 8
+  pub next-small : (w : Walker) → Stands m t o w → w .next ≤ 8
+  next-small w s = by (next-is (leadOf m) t o (w .cell))
+    where
+      by : Next (leadOf m) t o (w .cell) → w .next ≤ 8
+      by (stop e all) = omega (arith, s .ready)
+      by (goes p f low) = omega (arith, s .ready)
+
   -- the walker's next heading fits, unless it is 8
   fits-next : (w : Walker) → Stands m t o w → w .next < 8 → (y : ℕ) × (leadOf m (w .next) (w .cell) ≡ To y) × (getD t (w .cell) 0 ≡ getD t y 0 + cost (w .next))
   fits-next w s b = by (next-is (leadOf m) t o (w .cell))
@@ -79,7 +86,8 @@ module _ (m : Map) (t : List ℕ) (o : Order) where
   again-more (suc n) h hs = ap (λ (r : List ℕ). h ∷ r) (again-more n h hs)
 
   -- one step of a run
-  run-step : (w v : Walker) → Stands m t o w → w .next < 8 → Steps m t o w v → (hs : List ℕ) (a : Length) → Run (leadOf m) t (o .at) (w .cell) hs a → Split m t o w v 1 (w .next) hs a
+  run-step : (w v : Walker) → Stands m t o w → w .next < 8 → Steps m t o w v
+      → (hs : List ℕ) (a : Length) → Run (leadOf m) t (o .at) (w .cell) hs a → Split m t o w v 1 (w .next) hs a
   run-step w v s b p hs a (done e) = absurd (omega (arith, s .ready))
   run-step w v s b p hs a (more {h = h} {y = y} {hs = ks} {l = d} e c q r) =
       let f : h ≡ w .next = sym e ∙ sym (s .ready) in

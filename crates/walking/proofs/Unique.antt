@@ -16,7 +16,7 @@ use Rattle.walking.specs.declared.Reading.{Reading}
 use Rattle.walking.specs.declared.Reading.the-variants as reading
 use Rattle.walking.specs.declared.Way.{Way}
 use Rattle.walking.specs.Legs.{Leg, Legs, bytes}
-use Rattle.walking.specs.Read.{Routes, Found, NoWay, NoRoom, Reads}
+use Rattle.walking.specs.Read.{Routes, Reads}
 use Rattle.walking.proofs.LegsOf.{legs-unique}
 use Rattle.walking.proofs.OnFloor.{route-unique}
 use Rattle.walking.proofs.read_route.Reads as read-route

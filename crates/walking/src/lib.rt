@@ -3,7 +3,7 @@ ghost use mathlib.Core.Path.{_≡_};
 ghost use Prim.Native.Nat.{_+_, _*_, _<_, _≤_};
 ghost use lib.ListN.{length, set};
 ghost use Rattle.lengths.specs.Order.{_⊕_, steps};
-ghost use Rattle.floor.specs.Floor.{mapOf, cells};
+ghost use Rattle.floor.specs.Floor.{mapOf};
 ghost use Rattle.floor.specs.Heading.{weight};
 ghost use Rattle.floor.specs.Inner.{Sound, leadOf};
 ghost use Rattle.floor.specs.Step.{stepsOf};
@@ -14,6 +14,9 @@ ghost use Rattle.walking.specs.Reading.{numbered, cost, fits, next};
 ghost use Rattle.walking.specs.Reading.{Stands, Starts, Stepped, Leads, Counted, Room, Written};
 use floor::Lead;
 use lengths::Length;
+
+// The mark: the entry of a cell without a way to the goal.
+const MARK: u32 = 4294967295;
 
 // A way: its length and how many legs it has.
 pub struct Way {
@@ -224,7 +227,7 @@ fn write_legs(
     }
 }
 
-// The first route from start to the goal, read from a table that keeps its promise.
+// The first route from start to the goal, read from a table that keeps its promise. The goal is the table's: only the promise names it.
 pub fn read_route(
     width: usize,
     height: usize,
@@ -239,7 +242,7 @@ pub fn read_route(
     requires { ⌜ Filled (stepsOf (mapOf width height (now map))) (Only goal) (height * width) (now table) ⌝ }
     ensures { λ r. ⌜ Reads (stepsOf (mapOf width height (now (map .entry)))) (Only goal) (λ h. h) start (now (legs .entry)) r (now (legs .exit)) ⌝ }
 {
-    if table[start] == 4294967295 {
+    if table[start] == MARK {
         return Reading::NoWay;
     }
     let walker = stand(width, height, map, table, start);

@@ -1,0 +1,18 @@
+-- `checking::first_wrong` meets its contract: the window is made of walls.
+-- Assumes nothing.
+use mathlib.Core.Path.{refl}
+use borrow.Author.Needs.{needs}
+use Rattle.checking.proofs.Windows.{walls}
+use Rattle.checking.proofs.first_wrong.Statement.{statement}
+use Rattle.checking.proofs.first_wrong.Tie as tie
+
+-- src/lib.rt:347:5
+judge-rows-requires : tie.Need-judge-rows-requires
+judge-rows-requires c κs = (c .before .before .before .pre, walls 390 refl)
+
+-- src/lib.rt:336:1
+returns : tie.Need-returns
+returns c = search needs
+
+pub first-wrong-spec : {M : Type 1} → statement M
+first-wrong-spec = tie.close (tie.spec judge-rows-requires returns)

@@ -1,0 +1,14 @@
+-- `checking::marked_as` meets its contract: each return is one case of the test.
+-- Assumes nothing.
+use borrow.Author.Tests.{eq-eqb, ne-eqb}
+use Rattle.checking.proofs.marked_as.Statement.{statement}
+use Rattle.checking.proofs.marked_as.Tie as tie
+
+returns : tie.Need-returns
+returns c = rw (eq-eqb _ 4294967295 (c .if1 .taken))
+
+returns-2 : tie.Need-returns-2
+returns-2 c = rw (ne-eqb _ 4294967295 (c .if1 .left))
+
+pub marked-as-spec : {M : Type 1} → statement M
+marked-as-spec = tie.close (tie.spec returns returns-2)

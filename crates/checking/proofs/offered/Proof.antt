@@ -1,0 +1,129 @@
+-- `checking::offered` meets its contract: three numbers of the window and a key, none of which is above that of a blocked cell, fit together.
+-- Assumes nothing.
+use Prim.Native.Nat.{_+_, _-_, _*_}
+use native.Mathlib.Omega.{arith}
+use borrow.Author.Needs.{needs}
+use Rattle.checking.specs.Window.{offeredIn}
+use Rattle.checking.proofs.offered.Statement.{statement}
+use Rattle.checking.proofs.offered.Tie as tie
+use Rattle.checking.proofs.offered.Reads as reads
+use Rattle.checking.proofs.offered.Lts as lts
+use Rattle.checking.proofs.shut.Reads as shut-reads
+
+-- src/lib.rt:148:24
+mul-to : tie.Need-mul-to
+mul-to c = search needs
+
+-- src/lib.rt:148:16
+add-to : tie.Need-add-to
+add-to c = search needs
+
+-- src/lib.rt:148:16
+add-to-2 : tie.Need-add-to-2
+add-to-2 c = search needs
+
+-- src/lib.rt:148:16
+sub-to : tie.Need-sub-to
+sub-to c = search needs
+
+-- src/lib.rt:148:14
+mul-to-2 : tie.Need-mul-to-2
+mul-to-2 c = search needs
+
+-- src/lib.rt:148:14
+element-copy-out-to : tie.Need-element-copy-out-to
+element-copy-out-to c = search needs
+
+-- src/lib.rt:149:26
+mul-side : tie.Need-mul-side
+mul-side c = search needs
+
+-- src/lib.rt:149:18
+add-side : tie.Need-add-side
+add-side c = search needs
+
+-- src/lib.rt:149:18
+sub-side : tie.Need-sub-side
+sub-side c = search needs
+
+-- src/lib.rt:149:16
+mul-side-2 : tie.Need-mul-side-2
+mul-side-2 c = search needs
+
+-- src/lib.rt:149:16
+element-copy-out-side : tie.Need-element-copy-out-side
+element-copy-out-side c = search needs
+
+-- src/lib.rt:150:19
+add-other : tie.Need-add-other
+add-other c = search needs
+
+-- src/lib.rt:150:19
+sub-other : tie.Need-sub-other
+sub-other c = search needs
+
+-- src/lib.rt:150:17
+mul-other : tie.Need-mul-other
+mul-other c = search needs
+
+-- src/lib.rt:150:17
+element-copy-out-other : tie.Need-element-copy-out-other
+element-copy-out-other c = search needs
+
+-- src/lib.rt:151:5
+add-result : tie.Need-add-result
+add-result c =
+    let s = c .before .before .before in
+    omega (arith, s .pre .1 .1 .low (s .args .place + s .args .down * 130 + s .args .across - 131))
+
+-- src/lib.rt:151:16
+shut-requires : tie.Need-shut-requires
+shut-requires c κs = search needs
+
+-- src/lib.rt:151:5
+add-result-2 : tie.Need-add-result-2
+add-result-2 c =
+    let s = c .before .before .before .before in
+    omega (arith, s .pre .1 .1 .low (s .args .place + s .args .down * 130 + s .args .across - 131), s .pre .1 .1 .low (s .args .place + s .args .down * 130 - 130), c .shut .ensures)
+
+-- src/lib.rt:151:29
+shut-requires-2 : tie.Need-shut-requires-2
+shut-requires-2 c κs = search needs
+
+-- src/lib.rt:151:5
+add-result-3 : tie.Need-add-result-3
+add-result-3 c =
+    let s = c .before .before .before .before .before in
+    let l = s .pre .1 .1 .low in
+    omega (arith, l (s .args .place + s .args .down * 130 + s .args .across - 131), l (s .args .place + s .args .down * 130 - 130), l (s .args .place + s .args .across - 1), c .before .shut .ensures, c .shut2 .ensures)
+
+-- src/lib.rt:143:1
+returns : tie.Need-returns
+unfolding offeredIn
+returns c = rw (c .before .shut .ensures, c .shut2 .ensures)
+
+pub offered-spec : {M : Type 1} → statement M
+offered-spec =
+    tie.close
+    (tie.spec
+    mul-to
+    add-to
+    add-to-2
+    sub-to
+    mul-to-2
+    element-copy-out-to
+    mul-side
+    add-side
+    sub-side
+    mul-side-2
+    element-copy-out-side
+    add-other
+    sub-other
+    mul-other
+    element-copy-out-other
+    add-result
+    shut-requires
+    add-result-2
+    shut-requires-2
+    add-result-3
+    returns)
