@@ -1,0 +1,2 @@
+pub mod WaysOut
+pub mod Unique
