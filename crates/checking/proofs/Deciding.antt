@@ -4,9 +4,8 @@
 use mathlib.Core.Path.{_≡_, refl, ap, sym, subst, _∙_}
 use mathlib.Core.Bool.{Bool, true, false, true≢false}
 use mathlib.Core.List.{List}
-use Prim.Native.Nat.{ℕ, _+_, _*_, _/_, _%_, _≤_, _<_}
+use Prim.Native.Nat.{ℕ, _+_, _≤_}
 use native.Mathlib.Omega.{arith}
-use native.Mathlib.Decide.{ℕ-discrete}
 use lib.Dec.{T as Holds, eqb, eqb→eq, eqb-refl}
 use lib.ListN.{getD}
 use borrow.Author.Tests.{eq-eqb, eqb-true}
@@ -14,7 +13,7 @@ use Rattle.given.specs.Given.{pick}
 use Rattle.lengths.specs.declared.Length.{Length}
 use Rattle.lengths.specs.Order.{_⊕_, _⊑_}
 use Rattle.lengths.proofs.Order.{⊑-antisym}
-use Rattle.lengths.proofs.Keys.{key-order}
+use Rattle.lengths.proofs.Keys.{key, key-order}
 use Rattle.floor.specs.Floor.{Map}
 use Rattle.floor.specs.Inner.{leadOf}
 use Rattle.floor.specs.Step.{stepsOf}
@@ -26,8 +25,8 @@ use Rattle.entries.specs.Best.{made}
 use Rattle.entries.proofs.Best.{graph, made-is, made-unique}
 use Rattle.entries.proofs.Neighbours.{long-inj}
 use Rattle.entries.proofs.Packing.{mark-formed, pack-inj}
-use Rattle.checking.specs.Number.{key, keyOf, marked, openNumber, numberOf}
-use Rattle.checking.proofs.Numbers.{Kind, the-mark, bad, good, kind, Small}
+use Rattle.checking.specs.Number.{wall, keyOf, openNumber, numberOf}
+use Rattle.checking.proofs.CellNumbers.{Kind, the-mark, bad, good, kind, Small}
 
 module _ (G : Graph) (Goal : ℕ → Type 0) (t : List ℕ) (x : ℕ) (e : Entry) (is : Made G Goal (entryAt t) x e)
     (only : (f : Entry) → Made G Goal (entryAt t) x f → f ≡ e) where
@@ -70,15 +69,15 @@ module _ (G : Graph) (Goal : ℕ → Type 0) (t : List ℕ) (x : ℕ) (e : Entry
       by (long l) q (good a w r b) s = b ∙ ap key (long-inj (sym r ∙ pack-inj v l a (s .0) (s .1) q))
 
   -- a cell that is made the mark, as a blocked one is
-  pub shut-right : e ≡ mark → numberOf true v ≡ 1073741824 → Right G Goal t x
+  pub shut-right : e ≡ mark → numberOf true v ≡ wall → Right G Goal t x
   unfolding numberOf
   shut-right p q = by (eqb v 4294967295) refl q
     where
-      by : (b : Bool) → eqb v 4294967295 ≡ b → 1073741824 + pick b 0 1 ≡ 1073741824 → Right G Goal t x
+      by : (b : Bool) → eqb v 4294967295 ≡ b → wall + pick b 0 1 ≡ wall → Right G Goal t x
       by true k q = let a = eqb-true v 4294967295 k in rightly (ap malformed a ∙ mark-formed) (a ∙ ap pack (sym p))
       by false k q = absurd (omega arith)
 
-  pub right-shut : e ≡ mark → Right G Goal t x → numberOf true v ≡ 1073741824
+  pub right-shut : e ≡ mark → Right G Goal t x → numberOf true v ≡ wall
   unfolding numberOf
   right-shut p q = rw (eq-eqb v 4294967295 (packed q ∙ ap pack p)) (omega arith)
 
@@ -94,14 +93,25 @@ made-along G G′ Goal Goal′ T x to from weigh goal goal′ e k = record { at-
         let (h, y, n, s, r, c) = l .0 in
         ((h, y, n, to h y s, r, c ∙ ap (λ (w : Length). n ⊕ w) (weigh h)), λ h y n s r. subst (λ (w : Length). a ⊑ n ⊕ w) (weigh h) (l .1 h y n (from h y s) r))
 
--- what the neighbours make a cell of the floor
-module _ (m : Map) (goal : ℕ) (t : List ℕ) (x : ℕ) where
-  pub floor-only : (e f : Entry) → Made (stepsOf m) (Only goal) (entryAt t) x e → Made (stepsOf m) (Only goal) (entryAt t) x f → f ≡ e
-  floor-only e f a b = made-unique (ℕ-discrete x goal) b a
+-- a test that tells the goal cells
+pub record Tells (Goal : ℕ → Type 0) (goal : ℕ → Bool) : Type 0 where
+  pub passes : (x : ℕ) → Goal x → Holds (goal x)
+  pub passed : (x : ℕ) → Holds (goal x) → Goal x
 
-  pub floor-made : Made (stepsOf m) (Only goal) (entryAt t) x (made (leadOf m) (λ z. eqb z goal) (entryAt t) 8 x)
+pub tells-only : (g : ℕ) → Tells (Only g) (λ z. eqb z g)
+tells-only g = record { passes = λ x e. subst (λ (n : ℕ). Holds (eqb x n)) e (eqb-refl x); passed = λ x. eqb→eq x g }
+
+by-test : {A : Type 0} (b : Bool) → (Holds b → A) → (A → Holds b) → Dec A
+by-test true p q = yes (p tt)
+by-test false p q = no q
+
+-- what the neighbours make a cell of the floor, for any goal cells that a test tells
+module _ (m : Map) (Goal : ℕ → Type 0) (goal : ℕ → Bool) (tells : Tells Goal goal) (t : List ℕ) (x : ℕ) where
+  pub floor-only : (e : Entry) → Made (stepsOf m) Goal (entryAt t) x e → (f : Entry) → Made (stepsOf m) Goal (entryAt t) x f → f ≡ e
+  floor-only e a f b = made-unique (by-test (goal x) (tells .passed x) (tells .passes x)) b a
+
+  pub floor-made : Made (stepsOf m) Goal (entryAt t) x (made (leadOf m) goal (entryAt t) 8 x)
   floor-made =
-      made-along (graph 8 (leadOf m)) (stepsOf m) (λ z. Holds (eqb z goal)) (Only goal) (entryAt t) x
-      (λ h y s. to-step m h x y (s .0) (s .1)) (λ h y s. (s .heading, from-step m h x y s))
-      (λ h. refl) (eqb→eq x goal) (λ e. subst (λ (z : ℕ). Holds (eqb x z)) e (eqb-refl x)) _
-      (made-is (leadOf m) (λ z. eqb z goal) (entryAt t) 8 x)
+      made-along (graph 8 (leadOf m)) (stepsOf m) (λ z. Holds (goal z)) Goal (entryAt t) x
+      (λ h y s. to-step m h x y (s .0) (s .1)) (λ h y s. (s .heading, from-step m h x y s)) (λ h. refl) (tells .passed x) (tells .passes x) _
+      (made-is (leadOf m) goal (entryAt t) 8 x)

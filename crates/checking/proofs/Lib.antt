@@ -1,8 +1,8 @@
-pub mod Numbers
-pub mod Offers
+pub mod CellNumbers
+pub mod Offering
 pub mod Deciding
 pub mod Writing
 pub mod Windows
 pub mod InWindow
 pub mod Turns
-pub mod Rows
+pub mod RowByRow

@@ -1,6 +1,6 @@
 -- One turn more of the loops over the headings and over the columns of a row.
 -- Assumes nothing.
-use mathlib.Core.Path.{_≡_, refl, ap, ap₂, sym, subst, _∙_}
+use mathlib.Core.Path.{_≡_, refl, ap, ap₂, sym, _∙_}
 use mathlib.Core.Bool.{Bool, true, false}
 use mathlib.Core.List.{List}
 use Prim.Native.Nat.{ℕ, zero, suc, _+_, min, _≤_, _<_}
@@ -11,6 +11,7 @@ use lib.Dec.{eqb}
 use lib.ListN.{getD}
 use Rattle.given.specs.Given.{pick}
 use Rattle.entries.specs.Made.{Judged}
+use Rattle.checking.specs.Number.{wall}
 use Rattle.checking.specs.Window.{offerIn, leastIn, startOf, differsIn, differsAt, differing}
 
 pub least-none : (x : List ℕ) (p start : ℕ) → start ≡ leastIn x p start 0
@@ -23,7 +24,7 @@ least-more x p start k a b r e f g = g ∙ ap₂ min e f ∙ ap (leastIn x p sta
 
 differs-low : (x : List ℕ) (p start : ℕ) → differsIn x p start ≤ 1
 unfolding differsIn
-differs-low x p start = by (eqb (getD x p 0) (leastIn x p start 8)) (eqb (getD x p 0) 1073741824)
+differs-low x p start = by (eqb (getD x p 0) (leastIn x p start 8)) (eqb (getD x p 0) wall)
   where
     by : (a b : Bool) → pick {A = ℕ} a 0 (pick b 0 1) ≤ 1
     by true b = omega arith

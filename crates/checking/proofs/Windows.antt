@@ -1,25 +1,25 @@
 -- The window over a floor, row after row: what it shows, and that writing a row and moving down keep it.
 -- Assumes nothing.
-use mathlib.Core.Path.{_≡_, refl, ap, ap₂, sym, subst, _∙_}
+use mathlib.Core.Path.{_≡_, ap, ap₂, sym, _∙_}
 use mathlib.Core.Logic.{_⊎_, inl, inr, ⊎-elim}
 use mathlib.Core.List.{List}
 use Prim.Native.Nat.{ℕ, suc, _+_, _-_, _*_, _/_, _%_, _≤_, _<_}
 use native.Mathlib.Omega.{arith}
 use native.Mathlib.Nat.{zero-add}
 use native.Mathlib.Decide.{decLe, ℕ-discrete}
-use lib.ListN.{length, getD, replicate, length-replicate, getD-replicate}
+use lib.ListN.{getD, replicate, length-replicate, getD-replicate}
 use Rattle.floor.specs.Floor.{Map}
-use Rattle.checking.specs.Number.{numberAt}
+use Rattle.checking.specs.Number.{wall, numberAt}
 use Rattle.checking.specs.Window.{Written, Walled, Window}
-use Rattle.checking.proofs.Numbers.{Off, west, north, east, south, number-off}
+use Rattle.checking.proofs.CellNumbers.{west, north, east, number-off}
 
 -- a window made of walls
-pub walls : (n : ℕ) → n ≡ 390 → Walled (replicate n 1073741824)
-walls n e = record { size = length-replicate n 1073741824 ∙ e; walls = λ z h. getD-replicate n z 1073741824 0 (omega arith) }
+pub walls : (n : ℕ) → n ≡ 390 → Walled (replicate n wall)
+walls n e = record { size = length-replicate n wall ∙ e; walls = λ z h. getD-replicate n z wall 0 (omega arith) }
 
 module _ (m : Map) (t : List ℕ) where
   -- a place beside the floor
-  beside : (c r : ℕ) → (c ≡ 0) ⊎ (m .width < c) → numberAt m t c r ≡ 1073741824
+  beside : (c r : ℕ) → (c ≡ 0) ⊎ (m .width < c) → numberAt m t c r ≡ wall
   beside c r (inl e) = number-off m t c r (west e)
   beside c r (inr e) = number-off m t c r (east e)
 
@@ -40,7 +40,7 @@ module _ (m : Map) (t : List ℕ) where
       apart z o (yes p) = inl p
       apart z o (no p) = inr (⊎-elim (λ q. omega arith) (λ q. omega arith) o)
 
-      border : (z : ℕ) → z < 390 → (z % 130 ≡ 0) ⊎ (m .width < z % 130) → getD y z 0 ≡ 1073741824
+      border : (z : ℕ) → z < 390 → (z % 130 ≡ 0) ⊎ (m .width < z % 130) → getD y z 0 ≡ wall
       border z h o = d .outside z (apart z o (decLe (suc z) from)) ∙ w .border z h o
 
       edge : (z : ℕ) → z < 390 → (z % 130 ≡ 0) ⊎ (m .width < z % 130) → getD y z 0 ≡ numberAt m t (z % 130) (row + z / 130)
@@ -69,6 +69,6 @@ module _ (m : Map) (t : List ℕ) where
           let r : row + (z + 130) / 130 ≡ row + 1 + z / 130 = omega arith in
           ap (λ (n : ℕ). getD y n 0) (sym (zero-add z)) ∙ d .inside z (omega arith) ∙ w .numbers (z + 130) (omega arith) (omega arith) ∙ ap₂ (numberAt m t) c r
 
-      border : (z : ℕ) → z < 390 → (z % 130 ≡ 0) ⊎ (m .width < z % 130) → Dec (260 ≤ z) → getD y z 0 ≡ 1073741824
+      border : (z : ℕ) → z < 390 → (z % 130 ≡ 0) ⊎ (m .width < z % 130) → Dec (260 ≤ z) → getD y z 0 ≡ wall
       border z h o (yes p) = d .outside z (inr (omega arith)) ∙ w .border z h o
       border z h o (no p) = numbers z h (omega arith) ∙ beside (z % 130) (row + 1 + z / 130) o

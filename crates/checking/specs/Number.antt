@@ -3,18 +3,14 @@
 -- Assumes nothing.
 use mathlib.Core.Bool.{Bool}
 use mathlib.Core.List.{List}
-use Prim.Native.Nat.{ℕ, _+_, _-_, _*_}
+use Prim.Native.Nat.{ℕ, _+_, _-_}
 use lib.Dec.{ltb, eqb}
 use lib.ListN.{getD}
 use Rattle.given.specs.Given.{pick}
-use Rattle.lengths.specs.declared.Length.{Length}
 use Rattle.lengths.specs.Answers.{partAbove}
+use Rattle.lengths.proofs.Keys.{key}
 use Rattle.floor.specs.Floor.{Map, both, blocked, cellOf}
 use Rattle.entries.specs.Entry.{Entry, mark, long, partsOf}
-
--- the key of a length
-abbrev pub key : Length → ℕ
-key a = 13860 * a .straight + 19601 * a .diagonal
 
 -- an open cell with the mark
 abbrev pub none : ℕ
@@ -29,17 +25,17 @@ abbrev pub keyOf : Entry → ℕ
 keyOf mark = none
 keyOf (long a) = key a
 
--- 0 for the mark, 1 for any other number
-abbrev pub marked : ℕ → ℕ
-marked v = pick (eqb v 4294967295) 0 1
+-- 1 for a number that is not the mark, else 0
+abbrev pub notMark : ℕ → ℕ
+notMark v = pick (eqb v 4294967295) 0 1
 
 -- an open cell with this entry: a malformed one stands one above the mark
 unfoldable pub openNumber : ℕ → ℕ
-openNumber v = pick (partAbove (partsOf v)) (none + marked v) (key (partsOf v))
+openNumber v = pick (partAbove (partsOf v)) (none + notMark v) (key (partsOf v))
 
 -- a cell with this entry: a blocked one with anything but the mark stands one above the wall
 unfoldable pub numberOf : Bool → ℕ → ℕ
-numberOf shut v = pick shut (wall + marked v) (openNumber v)
+numberOf shut v = pick shut (wall + notMark v) (openNumber v)
 
 -- a column and a row that are on the floor, each counted from one further
 unfoldable pub onFloor : Map → ℕ → ℕ → Bool

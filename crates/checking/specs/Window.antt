@@ -7,18 +7,18 @@ use Prim.Native.Nat.{ℕ, zero, suc, _+_, _-_, _*_, _/_, _%_, min, _≤_, _<_}
 use lib.Dec.{leb, eqb}
 use lib.ListN.{length, getD}
 use Rattle.given.specs.Given.{pick}
+use Rattle.lengths.proofs.Keys.{key}
 use Rattle.floor.specs.Calls.{Fitting}
 use Rattle.floor.specs.Floor.{Map, cellOf}
 use Rattle.floor.specs.Heading.{changeOf, weight}
 use Rattle.floor.specs.Step.{stepsOf}
 use Rattle.floor.specs.Way.{Only}
-use Rattle.entries.specs.Made.{Right}
-use Rattle.entries.specs.Made.{Judged}
-use Rattle.checking.specs.Number.{key, none, wall, numberAt}
+use Rattle.entries.specs.Made.{Right, Judged}
+use Rattle.checking.specs.Number.{none, wall, numberAt}
 
 -- no number is above that of a blocked cell
 pub record Low (x : List ℕ) : Type 0 where
-  pub low : (z : ℕ) → getD x z 0 ≤ 1073741825
+  pub low : (z : ℕ) → getD x z 0 ≤ wall + 1
 
 -- y is x with count numbers written from a place on
 pub record Written (number : ℕ → ℕ) (from count : ℕ) (x y : List ℕ) : Type 0 where
@@ -62,7 +62,7 @@ differing x goal (suc c) = differing x goal c + differsAt x goal c
 
 -- the goal's column in the row with this first cell; past every column where the goal stands above the row
 abbrev pub goalColumn : (goal first : ℕ) → ℕ
-goalColumn goal first = pick (leb first goal) (goal - first) 4294967295
+goalColumn goal first = pick (leb first goal) (goal - first) 128
 
 -- a row of the floor, or the one below the last, is to be written from a place on
 pub record Loading (m : Map) (entries from row : ℕ) : Type 0 where

@@ -6,11 +6,9 @@ use Rattle.checking.proofs.Windows.{walls}
 use Rattle.checking.proofs.first_wrong.Statement.{statement}
 use Rattle.checking.proofs.first_wrong.Tie as tie
 
--- src/lib.rt:347:5
 judge-rows-requires : tie.Need-judge-rows-requires
 judge-rows-requires c κs = (c .before .before .before .pre, walls 390 refl)
 
--- src/lib.rt:336:1
 returns : tie.Need-returns
 returns c = search needs
 

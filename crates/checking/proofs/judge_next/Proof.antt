@@ -2,38 +2,31 @@
 -- Assumes nothing.
 use native.Mathlib.Omega.{arith}
 use borrow.Author.Needs.{needs}
-use Rattle.floor.specs.Floor.{mapOf}
 use Rattle.floor.proofs.Reading.{small}
 use Rattle.checking.proofs.InWindow.{window-low}
-use Rattle.checking.proofs.Rows.{goal-low, whole, row-judged}
+use Rattle.checking.proofs.RowByRow.{goal-low, whole, row-judged}
 use Rattle.checking.proofs.judge_next.Statement.{statement}
 use Rattle.checking.proofs.judge_next.Tie as tie
 
--- src/lib.rt:304:49
 add-next-row : tie.Need-add-next-row
 add-next-row c = search needs
 
--- src/lib.rt:304:5
 next-row-requires : tie.Need-next-row-requires
 next-row-requires c κs = search needs
 
--- src/lib.rt:305:36
 mul-goal-column : tie.Need-mul-goal-column
 mul-goal-column c =
     let s = c .before .before .before .before in
     omega (arith, small (s .args .row) (s .args .width) (omega arith) (s .pre .0 .sound .wide))
 
--- src/lib.rt:305:9
 goal-column-requires : tie.Need-goal-column-requires
 goal-column-requires c κs = let s = c .before .before .before .before in goal-low _ (s .args .table .now) _ (s .pre .0)
 
--- src/lib.rt:306:5
 judge-row-requires : tie.Need-judge-row-requires
 judge-row-requires c κs =
     let p = c .before .before .before .before .before .before .pre in
     (p .0 .sound .wide, window-low _ _ _ _ (whole _ _ _ (p .0) _ _ _ (p .1 .0) (p .1 .1) (c .before .before .next-row .ensures)))
 
--- src/lib.rt:291:1
 returns : tie.Need-returns
 returns c =
     let p = c .before .before .before .before .before .before .before .pre in

@@ -5,7 +5,7 @@ use native.Mathlib.Omega.{arith}
 use borrow.Author.Needs.{needs}
 use Rattle.floor.specs.Floor.{mapOf}
 use Rattle.floor.proofs.Reading.{small}
-use Rattle.checking.proofs.Rows.{Going, going-first, found, went-on, all-rows}
+use Rattle.checking.proofs.RowByRow.{Going, going-first, found, went-on, all-rows}
 use Rattle.checking.proofs.judge_rows.Statement.{statement}
 use Rattle.checking.proofs.judge_rows.Tie as tie
 
@@ -15,62 +15,50 @@ Inv-loop x₀ width height map goal table row₀ x row = Going (mapOf width heig
 abbrev μ-loop : tie.MeasureT-loop
 μ-loop x₀ width height map goal table row₀ x row = height - row
 
--- src/lib.rt:322:5
 next-row-requires : tie.Need-next-row-requires Inv-loop μ-loop
 next-row-requires c κs = search needs
 
--- src/lib.rt:324:5
 loop-holds : tie.Need-loop-holds Inv-loop μ-loop
 loop-holds c = let p = c .before .before .before .before .pre in going-first _ _ _ (p .0) _ _ (p .1) (c .next-row .ensures)
 
--- src/lib.rt:325:13
 judge-next-requires : tie.Need-judge-next-requires Inv-loop μ-loop
 judge-next-requires c κs = let s = c .before .before .before .before .before .before .before in (s .pre .0, (c .before .loop-test .taken, c .before .before .loop .inv .window))
 
--- src/lib.rt:327:20
 mul-result : tie.Need-mul-result Inv-loop μ-loop
 mul-result c =
     let s = c .before .before .before .before .before .before .before .before .before in
     omega (arith, small (c .before .before .before .before .loop .row) (s .args .width) (omega arith) (s .pre .0 .sound .wide))
 
--- src/lib.rt:327:20
 add-result : tie.Need-add-result Inv-loop μ-loop
 add-result c =
     let s = c .before .before .before .before .before .before .before .before .before in
     omega (arith, small (c .before .before .before .before .loop .row) (s .args .width) (omega arith) (s .pre .0 .sound .wide))
 
--- src/lib.rt:327:13
 returns : tie.Need-returns Inv-loop μ-loop
 returns c =
     let s = c .before .before .before .before .before .before .before .before .before in
     found _ _ _ (s .pre .0) _ _ _ _ (c .before .before .before .loop-test .taken) (c .before .before .before .before .loop .inv) (c .before .judge-next .ensures) (c .if1 .taken)
 
--- src/lib.rt:329:9
 move-down-requires : tie.Need-move-down-requires Inv-loop μ-loop
 move-down-requires c κs = search needs
 
--- src/lib.rt:330:9
 add-row : tie.Need-add-row Inv-loop μ-loop
 add-row c = search needs
 
--- src/lib.rt:324:5
 loop-less : tie.Need-loop-less Inv-loop μ-loop
 loop-less c = search needs
 
--- src/lib.rt:324:5
 loop-again : tie.Need-loop-again Inv-loop μ-loop
 loop-again c =
     let s = c .before .before .before .before .before .before .before .before .before .before .before in
     went-on _ _ _ (s .pre .0) _ _ _ _ (c .before .before .before .before .before .loop-test .taken) (c .before .before .before .before .before .before .loop .inv)
     (c .before .before .before .judge-next .ensures) _ (c .before .before .if1 .left) (c .move-down .ensures)
 
--- src/lib.rt:332:5
 mul-result-2 : tie.Need-mul-result-2 Inv-loop μ-loop
 mul-result-2 c =
     let s = c .before .before .before .before .before .before in
     omega (arith, small (s .args .height) (s .args .width) (s .pre .0 .sound .high) (s .pre .0 .sound .wide))
 
--- src/lib.rt:310:1
 returns-2 : tie.Need-returns-2 Inv-loop μ-loop
 returns-2 c =
     let s = c .before .before .before .before .before .before in

@@ -1,0 +1,70 @@
+// The number that stands for a cell while its table is checked.
+ghost use mathlib.Core.Path.{_≡_};
+ghost use Prim.Native.Nat.{_+_, _<_};
+ghost use lib.ListN.{length};
+ghost use Rattle.floor.specs.Calls.{Fitting};
+ghost use Rattle.floor.specs.Floor.{mapOf};
+ghost use Rattle.checking.specs.Number.{notMark, openNumber, numberOf, numberAt};
+
+// The mark of a table.
+const MARK: u32 = 4294967295;
+
+// The keys of a straight and of a diagonal step.
+pub const STRAIGHT: u32 = 13860;
+
+pub const DIAGONAL: u32 = 19601;
+
+// An open cell with the mark.
+pub const NONE: u32 = 805306368;
+
+// A blocked cell with the mark, and a place off the floor.
+pub const WALL: u32 = 1073741824;
+
+// 1 for an entry that is not the mark, else 0.
+fn not_mark(entry: u32) -> u32
+    ensures { λ r. ⌜ r ≡ notMark entry ⌝ }
+{
+    if entry == MARK {
+        return 0;
+    }
+    1
+}
+
+// The number of an open cell with this entry.
+fn open_number(entry: u32) -> u32
+    ensures { λ r. ⌜ r ≡ openNumber entry ⌝ }
+{
+    let straight = entry / 65536;
+    let diagonal = entry % 65536;
+    if straight / 16384 + diagonal / 16384 == 0 {
+        return STRAIGHT * straight + DIAGONAL * diagonal;
+    }
+    NONE + not_mark(entry)
+}
+
+// The number of a cell with this entry.
+fn number_of(blocked: bool, entry: u32) -> u32
+    ensures { λ r. ⌜ r ≡ numberOf blocked entry ⌝ }
+{
+    if blocked {
+        return WALL + not_mark(entry);
+    }
+    open_number(entry)
+}
+
+// The number of a cell of the floor.
+pub fn number_at(
+    map: &[u8],
+    table: &[u32],
+    width: usize,
+    height: usize,
+    column: usize,
+    row: usize,
+) -> u32
+    requires { ⌜ Fitting (mapOf width height (now map)) (length (now table)) ⌝ }
+    requires { ⌜ (column < width) × (row < height) ⌝ }
+    ensures { λ r. ⌜ r ≡ numberAt (mapOf width height (now (map .entry))) (now (table .entry)) (column + 1) (row + 1) ⌝ }
+{
+    let blocked = floor::tests::blocked_at(width, height, map, column, row);
+    number_of(blocked, table[row * width + column])
+}
