@@ -1,0 +1,72 @@
+-- Whether a cell is right, computed by the neighbour rule; so a table's verdict is computed, and a table that is right everywhere is the filled one.
+-- Assumes nothing.
+use mathlib.Core.Path.{_≡_, sym, _∙_, ap}
+use mathlib.Core.Bool.{Bool, true, false, not, true≢false}
+use mathlib.Core.List.{List}
+use Prim.Native.Nat.{ℕ, _<_}
+use native.Mathlib.Decide.{ℕ-discrete}
+use native.Mathlib.Omega.{arith}
+use borrow.Author.Tests.{eqb-true, eq-eqb, ltb-true, not-true}
+use lib.Dec.{eqb, ltb}
+use lib.ListN.{getD, length}
+use Rattle.floor.specs.Floor.{Map, both, cells}
+use Rattle.floor.specs.Inner.{Sound, leadOf}
+use Rattle.floor.specs.Room.{allBelow}
+use Rattle.floor.specs.Step.{stepsOf}
+use Rattle.floor.specs.Way.{Only}
+use Rattle.floor.proofs.Joined.{both-true, all-at}
+use Rattle.floor.proofs.OnMap.{few-cells, on-floor}
+use Rattle.entries.specs.Entry.{pack, malformed, entryAt}
+use Rattle.entries.specs.Best.{made}
+use Rattle.entries.specs.Filled.{Filled}
+use Rattle.entries.specs.Made.{Right}
+use Rattle.entries.proofs.Judging.{right-filled}
+use Rattle.checking.proofs.Deciding.{floor-only, floor-made}
+use Rattle.table.specs.declared.CheckAnswer.{CheckAnswer}
+use Rattle.table.specs.declared.CheckAnswer.the-variants as answer
+use Rattle.table.specs.Answers.{Verdict}
+
+-- the entry is not malformed, and is what its neighbours make it
+abbrev pub right? : Map → ℕ → List ℕ → ℕ → Bool
+right? m goal t x =
+    both (not (malformed (getD t x 4294967295))) (eqb (getD t x 4294967295) (pack (made (leadOf m) (λ z. eqb z goal) (entryAt t) 8 x)))
+
+-- the verdict is the answer
+abbrev pub verdict? : (ℕ → Bool) → ℕ → CheckAnswer → Bool
+verdict? right n answer.Right = allBelow right n
+verdict? right n (answer.Differs cell) = both (ltb cell n) (both (allBelow right cell) (not (right cell)))
+verdict? right n (answer.Refused k) = false
+
+module _ (m : Map) (goal : ℕ) (t : List ℕ) where
+  abbrev RightAt : ℕ → Type 0
+  RightAt = Right (stepsOf m) (Only goal) t
+
+  is-right : (x : ℕ) → right? m goal t x ≡ true → RightAt x
+  is-right x e =
+      let (p, q) = both-true (not (malformed (getD t x 4294967295))) _ e in
+      record { formed = not-true _ p; what = _; made = floor-made m goal t x; same = eqb-true _ _ q }
+
+  is-wrong : (x : ℕ) → right? m goal t x ≡ false → ¬ RightAt x
+  is-wrong x e r = true≢false (sym passes ∙ e)
+    where
+      same : getD t x 4294967295 ≡ pack (made (leadOf m) (λ z. eqb z goal) (entryAt t) 8 x)
+      same = r .same ∙ ap pack (floor-only m goal t x _ (r .what) (floor-made m goal t x) (r .made))
+
+      passes : right? m goal t x ≡ true
+      passes = rw (r .formed, eq-eqb _ _ same)
+
+  all-right : (n : ℕ) → allBelow (right? m goal t) n ≡ true → (x : ℕ) → x < n → RightAt x
+  all-right n e x h = is-right x (all-at (right? m goal t) n e x h)
+
+  pub verdict : (n : ℕ) (r : CheckAnswer) → verdict? (right? m goal t) n r ≡ true → Verdict RightAt n r
+  verdict n answer.Right e = record { within = omega arith; before = all-right n e; wrong = λ h. absurd (omega arith) }
+  verdict n (answer.Differs cell) e =
+      let (p, q) = both-true (ltb cell n) _ e in
+      let (s, u) = both-true (allBelow (right? m goal t) cell) _ q in
+      let h = ltb-true cell n p in
+      (h, record { within = omega arith; before = all-right cell s; wrong = λ k. is-wrong cell (not-true _ u) })
+  verdict n (answer.Refused k) e = absurd (true≢false (sym e))
+
+  pub filled : Sound m → goal < cells m → length t ≡ cells m → allBelow (right? m goal t) (cells m) ≡ true → Filled (stepsOf m) (Only goal) (cells m) t
+  filled s on size e =
+      right-filled (stepsOf m) (Only goal) (λ x. ℕ-discrete x goal) (cells m) (few-cells m s) (on-floor m) (λ x g. omega arith) t size (all-right (cells m) e)
