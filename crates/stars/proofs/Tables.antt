@@ -21,7 +21,7 @@ use Rattle.entries.specs.Best.{made}
 use Rattle.entries.specs.Filled.{Filled}
 use Rattle.entries.specs.Made.{Right}
 use Rattle.entries.proofs.Judging.{right-filled}
-use Rattle.checking.proofs.Deciding.{floor-only, floor-made}
+use Rattle.checking.proofs.Deciding.{floor-only, floor-made, tells-only}
 use Rattle.table.specs.declared.CheckAnswer.{CheckAnswer}
 use Rattle.table.specs.declared.CheckAnswer.the-variants as answer
 use Rattle.table.specs.Answers.{Verdict}
@@ -44,13 +44,13 @@ module _ (m : Map) (goal : ℕ) (t : List ℕ) where
   is-right : (x : ℕ) → right? m goal t x ≡ true → RightAt x
   is-right x e =
       let (p, q) = both-true (not (malformed (getD t x 4294967295))) _ e in
-      record { formed = not-true _ p; what = _; made = floor-made m goal t x; same = eqb-true _ _ q }
+      record { formed = not-true _ p; what = _; made = floor-made m (Only goal) (λ z. eqb z goal) (tells-only goal) t x; same = eqb-true _ _ q }
 
   is-wrong : (x : ℕ) → right? m goal t x ≡ false → ¬ RightAt x
   is-wrong x e r = true≢false (sym passes ∙ e)
     where
       same : getD t x 4294967295 ≡ pack (made (leadOf m) (λ z. eqb z goal) (entryAt t) 8 x)
-      same = r .same ∙ ap pack (floor-only m goal t x _ (r .what) (floor-made m goal t x) (r .made))
+      same = r .same ∙ ap pack (floor-only m (Only goal) (λ z. eqb z goal) (tells-only goal) t x _ (floor-made m (Only goal) (λ z. eqb z goal) (tells-only goal) t x) (r .what) (r .made))
 
       passes : right? m goal t x ≡ true
       passes = rw (r .formed, eq-eqb _ _ same)
