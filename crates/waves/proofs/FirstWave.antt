@@ -9,7 +9,7 @@ use native.Mathlib.Decide.{ℕ-discrete}
 use lib.ListN.{getD, length, set, length-set}
 use lib.Seq.{getD-set-same}
 use Rattle.lengths.proofs.Keys.{straightKey}
-use Rattle.waves.specs.Work.{unreached, at, waiting, Room}
+use Rattle.waves.specs.Work.{unreached, at, Room}
 use Rattle.waves.specs.Taken.{This}
 use Rattle.waves.specs.Solved.{Loaded}
 use Rattle.waves.proofs.Kept.{Between}

@@ -55,6 +55,16 @@ pub record CellsLoaded (m : Map) (x₀ : List ℕ) (c r : ℕ) (x : List ℕ) : 
   pub size : length x ≡ length x₀
   pub prefix : Prefix m (spot c r) x
 
+-- the first i of count cells of a byte are loaded, from column c of row r on
+pub record BitsLoaded (m : Map) (x₀ : List ℕ) (c r count i : ℕ) (x : List ℕ) : Type 0 where
+  pub few : i ≤ count
+  pub cells : CellsLoaded m x₀ (c + i) r x
+
+-- whole bytes of row r are loaded, up to column c
+pub record BytesLoaded (m : Map) (x₀ : List ℕ) (c r : ℕ) (x : List ℕ) : Type 0 where
+  pub aligned : c % 8 ≡ 0
+  pub cells : CellsLoaded m x₀ c r x
+
 -- the rows before r are loaded
 pub record RowsLoaded (m : Map) (x₀ : List ℕ) (r : ℕ) (x : List ℕ) : Type 0 where
   pub inside : r ≤ m .height

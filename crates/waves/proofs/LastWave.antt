@@ -7,7 +7,6 @@ use mathlib.Core.List.{List}
 use Prim.Native.Nat.{ℕ, _+_, _%_, _≤_, _<_}
 use native.Mathlib.Omega.{arith}
 use native.Mathlib.Decide.{decLe, ℕ-discrete}
-use lib.ListN.{length}
 use Rattle.lengths.proofs.Keys.{straightKey}
 use Rattle.waves.specs.Work.{unreached, stride, highest, at, cost, across, WorkStep}
 use Rattle.waves.specs.Wave.{Support}
@@ -18,7 +17,7 @@ use Rattle.waves.proofs.Turns.{Corner, Shape, level, upright, slanted, 
 
 module _ (floor : List ℕ) (h a b : ℕ) (s : WorkStep floor h a b) (low : stride + 1 ≤ a) (k : Corner h) where
   -- first along the row, then along the column
-  pub first-step : WorkStep floor (k .first) a (across a h)
+  first-step : WorkStep floor (k .first) a (across a h)
   first-step = record {
     heading = k .known .0;
     place = omega (arith, k .along);
@@ -28,7 +27,7 @@ module _ (floor : List ℕ) (h a b : ℕ) (s : WorkStep floor h a b) (low : stri
     other = also floor (across a h) _ (omega (arith, k .along)) (s .other);
   }
 
-  pub second-step : WorkStep floor (k .second) (across a h) b
+  second-step : WorkStep floor (k .second) (across a h) b
   second-step = record {
     heading = k .known .1;
     place = omega (arith, s .place, k .down);
@@ -38,7 +37,8 @@ module _ (floor : List ℕ) (h a b : ℕ) (s : WorkStep floor h a b) (low : stri
     other = also floor (across a h) _ (omega (arith, k .down)) (s .other);
   }
 
-module _ (floor : List ℕ) (goal prev last mid tail limit : ℕ) (x q : List ℕ) (g : Between floor goal prev last mid tail limit x q) (empty : tail ≤ mid) where
+module _ (floor : List ℕ) (goal prev last mid tail limit : ℕ) (x q : List ℕ) (g : Between floor goal prev last mid tail limit x q)
+    (empty : tail ≤ mid) where
   -- all that was reached lies below the wave's beginning
   low : (z : ℕ) → 0 < at x z → at x z < unreached → at x z + straightKey < limit
   low z o f = by (decLe limit (at x z + straightKey))

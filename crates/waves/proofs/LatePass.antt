@@ -61,7 +61,8 @@ module _ (t₀ prev last : ℕ) (x₀ q₀ : List ℕ) (i : ℕ) (x q : List ℕ
           room = n .room;
         }
 
-  module _ (v : ℕ) (x′ q′ : List ℕ) (t′ : ℕ) (read : v ≡ at x (getD q i 0)) (l : StepsLeft (λ j. j % 2 ≡ 1) (getD q i 0) 1 (v + diagonalKey) t x q x′ q′ t′) where
+  module _ (v : ℕ) (x′ q′ : List ℕ) (t′ : ℕ) (read : v ≡ at x (getD q i 0))
+      (l : StepsLeft (λ j. j % 2 ≡ 1) (getD q i 0) 1 (v + diagonalKey) t x q x′ q′ t′) where
     late-more : (w : Wave) → LateReady w x₀ q₀ t₀ prev last → LateDone w prev (i + 1) x₀ q₀ x′ q′ t′
     late-more w r =
         let n = s .keeps w r in
@@ -76,10 +77,14 @@ module _ (t₀ prev last : ℕ) (x₀ q₀ : List ℕ) (i : ℕ) (x q : List ℕ
           high = omega (arith, c .near);
           small = omega (arith, r .small);
         }) in
-        record { going = k .going; falls = falls-more w x₀ q₀ x q x′ q′ (n .falls) (k .falls); done = λ j h d a m o u. by n k j h d a m o u (ℕ-discrete j i) }
+        record {
+          going = k .going;
+          falls = falls-more w x₀ q₀ x q x′ q′ (n .falls) (k .falls);
+          done = λ j h d a m o u. by n k j h d a m o u (ℕ-discrete j i);
+        }
       where
-        by : LateDone w prev i x₀ q₀ x q t → Offered w (λ j. j % 2 ≡ 1) p (v + diagonalKey) x q x′ q′ t′ → (j h d : ℕ) → prev ≤ j → j < i + 1 → h % 2 ≡ 1
-            → WorkStep (w .floor) h (getD q₀ j 0) d → Dec (j ≡ i) → at x′ d ≤ at x₀ (getD q₀ j 0) + diagonalKey
+        by : LateDone w prev i x₀ q₀ x q t → Offered w (λ j. j % 2 ≡ 1) p (v + diagonalKey) x q x′ q′ t′ → (j h d : ℕ)
+            → prev ≤ j → j < i + 1 → h % 2 ≡ 1 → WorkStep (w .floor) h (getD q₀ j 0) d → Dec (j ≡ i) → at x′ d ≤ at x₀ (getD q₀ j 0) + diagonalKey
         by n k j h d a m o u (no e) = omega (arith, n .done j h d a (omega arith) o u, k .falls .low d)
         by n k j h d a m o u (yes e) =
             let f : getD q₀ j 0 ≡ p = ap (λ (z : ℕ). getD q₀ z 0) e ∙ sym (late-same w r) in
@@ -89,7 +94,8 @@ module _ (t₀ prev last : ℕ) (x₀ q₀ : List ℕ) (i : ℕ) (x q : List ℕ
     pub lates-more : Lates t₀ prev last x₀ q₀ (i + 1) x′ q′ t′
     lates-more = record { inside = (omega (arith, s .inside .0), inl (omega arith)); keeps = late-more }
 
-pub lates-all : (t₀ prev last : ℕ) (x₀ q₀ : List ℕ) (i : ℕ) (x q : List ℕ) (t : ℕ) → Lates t₀ prev last x₀ q₀ i x q t → last ≤ i → LateLeft t₀ prev last x₀ q₀ x q t
+pub lates-all : (t₀ prev last : ℕ) (x₀ q₀ : List ℕ) (i : ℕ) (x q : List ℕ) (t : ℕ) → Lates t₀ prev last x₀ q₀ i x q t → last ≤ i
+    → LateLeft t₀ prev last x₀ q₀ x q t
 lates-all t₀ prev last x₀ q₀ i x q t s b = record {
   keeps = λ w r. let n = s .keeps w r in
       record { going = n .going; falls = n .falls; done = λ k h d m o e u. n .done k h d m (omega arith) e u };

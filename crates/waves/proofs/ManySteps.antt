@@ -48,7 +48,11 @@ module _ (first p cand t : ℕ) (x₀ q₀ : List ℕ) (h : ℕ) (x q : List ℕ
         high = o .high;
         small = o .small;
       }) in
-      record { going = m .going; falls = falls-more w x₀ q₀ x q x′ q′ (a .falls) (m .falls); done = λ j c k s. by j c k s (decLe (suc j) h) a m }
+      record {
+        going = m .going;
+        falls = falls-more w x₀ q₀ x q x′ q′ (a .falls) (m .falls);
+        done = λ j c k s. by j c k s (decLe (suc j) h) a m;
+      }
     where
       by : (j c : ℕ) → (j % 2 ≡ first) × (j < h + 2) → WorkStep (w .floor) j p c → Dec (j < h)
           → Offered w (λ j. (j % 2 ≡ first) × (j < h)) p cand x₀ q₀ x q t′ → Offered w (λ j. j ≡ h) p cand x q x′ q′ t″ → at x′ c ≤ cand
@@ -79,8 +83,9 @@ early-none p cand t limit x q r out = record {
   keeps = λ w g e c s. record { going = g; falls = falls-none w x q; done = λ h b k u n. absurd (omega arith) };
 }
 
-pub early-some : (p cand t limit : ℕ) (x q x′ q′ : List ℕ) (t′ : ℕ) → cand < limit + straightKey → StepsLeft (λ j. j % 2 ≡ 1) p 1 cand t x q x′ q′ t′
-    → EarlyLeft p cand t limit x q x′ q′ t′
+pub early-some :
+    (p cand t limit : ℕ) (x q x′ q′ : List ℕ) (t′ : ℕ) → cand < limit + straightKey
+    → StepsLeft (λ j. j % 2 ≡ 1) p 1 cand t x q x′ q′ t′ → EarlyLeft p cand t limit x q x′ q′ t′
 early-some p cand t limit x q x′ q′ t′ high l = record {
   size = l .size;
   room = l .room;
@@ -112,8 +117,13 @@ module _ (p v t limit : ℕ) (x q x′ q′ : List ℕ) (t′ : ℕ) (x″ q″ 
         small = omega (arith, e .same, e .small);
       }) in
       let f : at x′ p ≡ at x p = m .falls .keep p (omega (arith, c .near, e .same)) in
-      let n = b .keeps w (m .going) e (record { free = omega (arith, c .free); after = omega (arith, c .after); near = omega (arith, c .near) }) (omega arith) in
-      record { going = n .going; falls = falls-more w x q x′ q′ x″ q″ (m .falls) (n .falls); done = λ h d u k. by h d u k e m n (ℕ-discrete (h % 2) 0) }
+      let c′ : This x′ limit p = record { free = omega (arith, c .free); after = omega (arith, c .after); near = omega (arith, c .near) } in
+      let n = b .keeps w (m .going) e c′ (omega arith) in
+      record {
+        going = n .going;
+        falls = falls-more w x q x′ q′ x″ q″ (m .falls) (n .falls);
+        done = λ h d u k. by h d u k e m n (ℕ-discrete (h % 2) 0);
+      }
     where
       by : (h d : ℕ) → WorkStep (w .floor) h p d → at x p + cost h < w .limit + straightKey → Ends w limit
           → Offered w (λ j. j % 2 ≡ 0) p (v + straightKey) x q x′ q′ t′ → EarlyDone w p (v + diagonalKey) limit x′ q′ x″ q″ t″ → Dec (h % 2 ≡ 0)

@@ -1,5 +1,14 @@
--- From one wave to the next. A step that offers into the wave past `limit` is straight out of this wave, or diagonal out of the late cells of
--- the wave before or the early ones of this wave; all these are taken, so the limit can rise by a straight step.
+-- From one wave to the next. The argument, in words:
+-- 1. This wave has the reached cells whose numbers lie below `limit` and not below `limit` less a straight step. All numbers below `limit` are
+--    settled: no step would lower them, and none of them rises or falls any more.
+-- 2. A straight step out of this wave ends in the next wave, which is the numbers from `limit` on, below `limit` and a straight step.
+-- 3. A diagonal step is longer than a straight one and shorter than two. Out of this wave it ends in the next wave, if its cell is early, or in
+--    the wave after that, if its cell is late.
+-- 4. So what offers a number in the next wave is: a straight step out of this wave, a diagonal step out of an early cell of this wave, or a
+--    diagonal step out of a late cell of the wave before. The two passes take all these steps, in whatever order.
+-- 5. None of them offers less than `limit`, so the settled cells stay, and afterwards no step that ends below the next wave's end would lower a
+--    cell: the limit can rise by a straight step.
+-- 6. Each wave but the last has a cell, so there are no more waves than cells, which bounds every number (`count`).
 -- Assumes nothing.
 use mathlib.Core.Path.{_≡_, refl, ap, sym, subst, _∙_}
 use mathlib.Core.Logic.{_⊎_, inl, inr}
@@ -15,7 +24,8 @@ use Rattle.waves.specs.Taken.{This, Late}
 use Rattle.waves.specs.Passes.{LateReady, LateDone, LateLeft, ThisReady, ThisDone, ThisLeft}
 use Rattle.waves.proofs.Kept.{the, Between}
 
-module _ (floor : List ℕ) (goal prev last mid end limit : ℕ) (x q : List ℕ) (g : Between floor goal prev last mid end limit x q) (more : mid < end) where
+module _ (floor : List ℕ) (goal prev last mid end limit : ℕ) (x q : List ℕ) (g : Between floor goal prev last mid end limit x q)
+    (more : mid < end) where
   abbrev v : Wave
   v = the floor goal end limit
 
@@ -31,7 +41,9 @@ module _ (floor : List ℕ) (goal prev last mid end limit : ℕ) (x q : List ℕ
     first = l .keeps v late-ready
 
     moved : (z : ℕ) → This x limit z → This x′ limit z
-    moved z k = let e = first .falls .keep z (k .near) in record { free = omega (arith, k .free); after = omega (arith, k .after); near = omega (arith, k .near) }
+    moved z k =
+        let e = first .falls .keep z (k .near) in
+        record { free = omega (arith, k .free); after = omega (arith, k .after); near = omega (arith, k .near) }
 
     pub this-ready : ThisReady (the floor goal end limit) x′ q′ t′ mid end limit
     this-ready = record {
@@ -81,7 +93,8 @@ module _ (floor : List ℕ) (goal prev last mid end limit : ℕ) (x q : List ℕ
               let i = g .in-late a (record { free = omega (arith, free); after = omega arith; near = omega arith }) in
               let j = i .index in
               let f : at x (getD q j 0) ≡ at x a = ap (at x) (i .here) in
-              omega (arith, second .low b, first .done j h b (i .after) (i .before) (omega arith) (subst (λ (z : ℕ). WorkStep floor h z b) (sym (i .here)) u))
+              let s = subst (λ (z : ℕ). WorkStep floor h z b) (sym (i .here)) u in
+              omega (arith, second .low b, first .done j h b (i .after) (i .before) (omega arith) s)
 
       -- the late cells of this wave
       late-now : (z : ℕ) → Late x′ (limit + straightKey) z → Late x″ (limit + straightKey) z
@@ -105,7 +118,11 @@ module _ (floor : List ℕ) (goal prev last mid end limit : ℕ) (x q : List ℕ
         settled = λ z r. second .going .below z (r .found);
         lates = λ i m k. late-now (getD q″ i 0) (second .late i m k);
         these = λ i m k. let r = second .going .queued i m k in
-            record { free = omega (arith, r .after, positive); after = omega (arith, r .after); near = second .going .below (getD q″ i 0) (r .found) };
+            record {
+              free = omega (arith, r .after, positive);
+              after = omega (arith, r .after);
+              near = second .going .below (getD q″ i 0) (r .found);
+            };
         in-late = find-late;
         in-these = λ z k. second .going .listed z (omega (arith, k .after)) (omega (arith, k .near, small));
         going = record {
@@ -132,6 +149,7 @@ module _ (floor : List ℕ) (goal prev last mid end limit : ℕ) (x q : List ℕ
               by (yes k) = k
               by (no k) = absurd (omega (arith, g .these mid (omega arith) more .near))
 
-          again : (z : ℕ) → (z ≡ goal) ⊎ Support (the floor goal end limit) x″ z (at x″ z) → (z ≡ goal) ⊎ Support (the floor goal t″ (limit + straightKey)) x″ z (at x″ z)
+          again : (z : ℕ) → (z ≡ goal) ⊎ Support (the floor goal end limit) x″ z (at x″ z)
+              → (z ≡ goal) ⊎ Support (the floor goal t″ (limit + straightKey)) x″ z (at x″ z)
           again z (inl e) = inl e
           again z (inr u) = inr (record { heading = u .heading; cell = u .cell; step = u .step; near = omega (arith, u .near); sum = u .sum })

@@ -32,7 +32,12 @@ aside w x q t j v g apart = record {
   support = g .support;
   relaxed = g .relaxed;
   listed = λ z o f. let l = g .listed z o f in
-      record { index = l .index; here = getD-set-other q j (l .index) v 0 (apart (l .index) (l .after) (l .before)) ∙ l .here; after = l .after; before = l .before };
+      record {
+        index = l .index;
+        here = getD-set-other q j (l .index) v 0 (apart (l .index) (l .after) (l .before)) ∙ l .here;
+        after = l .after;
+        before = l .before;
+      };
   queued = λ i l h. subst (Next w x) (sym (getD-set-other q j i v 0 (apart i l h))) (g .queued i l h);
 }
 
@@ -107,7 +112,8 @@ module _ (w : Wave) (x q : List ℕ) (t a : ℕ) (g : Going w x q t) where
       free = new (λ i v. 0 < at (w .floor) i → 0 < v) (λ o. omega arith) (λ i e. g .free i);
       shut = new (λ i v. at (w .floor) i ≡ 0 → v ≡ 0) (λ o. absurd (omega (arith, s .to))) (λ i e. g .shut i);
       start =
-          new (λ i v. i ≡ w .goal → v ≡ straightKey) (λ e. absurd (omega (arith, ap (at x) e, g .start))) (λ i e m. ap (at x) m ∙ g .start) (w .goal) refl;
+          new (λ i v. i ≡ w .goal → v ≡ straightKey) (λ e. absurd (omega (arith, ap (at x) e, g .start)))
+          (λ i e m. ap (at x) m ∙ g .start) (w .goal) refl;
       below = new (λ i v. v < unreached → v < w .limit + straightKey) (λ o. high) (λ i e. g .below i);
       support = supports;
       relaxed = relaxes;
@@ -117,11 +123,18 @@ module _ (w : Wave) (x q : List ℕ) (t a : ℕ) (g : Going w x q t) where
 
     next-new : (z : ℕ) → Next w x z → Next w x′ z
     next-new z r =
-        let p = new (λ i v. Next w x i → (w .limit ≤ v) × (v < unreached)) (λ r. (omega arith, omega arith)) (λ i e r. (r .after, r .found)) z r in
+        let p =
+        new (λ i v. Next w x i → (w .limit ≤ v) × (v < unreached)) (λ r. (omega arith, omega arith)) (λ i e r. (r .after, r .found)) z r
+        in
         record { after = p .0; found = p .1 }
 
     again : (z t′ : ℕ) → t ≤ t′ → Listed q (w .end) t z → Listed q′ (w .end) t′ z
-    again z t′ le l = record { index = l .index; here = front q t a (l .index) (l .before) ∙ l .here; after = l .after; before = omega (arith, l .before) }
+    again z t′ le l = record {
+      index = l .index;
+      here = front q t a (l .index) (l .before) ∙ l .here;
+      after = l .after;
+      before = omega (arith, l .before);
+    }
 
     -- a cell that had a number already
     pub lowered : at x a < unreached → Room x′ q′ t → Going w x′ q′ t

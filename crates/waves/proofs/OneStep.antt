@@ -53,7 +53,8 @@ module _ (w : Wave) (x q : List ℕ) (t p h cand c : ℕ) (in-table : h < 8) (o 
   nothing : ((b : ℕ) → WorkStep (w .floor) h p b → at x b ≤ cand) → Result (at x a)
   nothing done room =
       let e : t + (at x a / unreached - at x a / unreached) ≡ t = omega arith in
-      subst (λ (l : List ℕ). Offered w (λ j. j ≡ h) p cand x q l (set q t a) (t + (at x a / unreached - at x a / unreached))) (sym (set-getD x a 0))
+      subst (λ (l : List ℕ). Offered w (λ j. j ≡ h) p cand x q l (set q t a) (t + (at x a / unreached - at x a / unreached)))
+      (sym (set-getD x a 0))
       (subst (Offered w (λ j. j ≡ h) p cand x q x (set q t a)) (sym e)
       (record {
         going = idle w x q t a g;
@@ -87,7 +88,8 @@ module _ (w : Wave) (x q : List ℕ) (t p h cand c : ℕ) (in-table : h < 8) (o 
       fall : Falls w x q (set x a cand) (set q t a)
       fall = lower-falls w x q t a g h p cand s (o .near) (o .sum) (o .low) (o .high) k (o .small)
 
-      ended : (n : ℕ) → t + (at x a / unreached - cand / unreached) ≡ n → (Room (set x a cand) (set q t a) n → Going w (set x a cand) (set q t a) n)
+      ended : (n : ℕ) → t + (at x a / unreached - cand / unreached) ≡ n
+          → (Room (set x a cand) (set q t a) n → Going w (set x a cand) (set q t a) n)
           → Offered w (λ j. j ≡ h) p cand x q (set x a cand) (set q t a) (t + (at x a / unreached - cand / unreached))
       ended n e go =
           subst (Offered w (λ j. j ≡ h) p cand x q (set x a cand) (set q t a)) (sym e)
@@ -96,7 +98,8 @@ module _ (w : Wave) (x q : List ℕ) (t p h cand c : ℕ) (in-table : h < 8) (o 
       by : Dec (unreached ≤ at x a) → Offered w (λ j. j ≡ h) p cand x q (set x a cand) (set q t a) (t + (at x a / unreached - cand / unreached))
       by (yes f) =
           let m = g .kinds a in
-          ended (t + 1) (omega (arith, o .high, o .small)) (fresh w x q t a g h p cand s (o .near) (o .sum) (o .low) (o .high) k (o .small) (omega arith))
+          ended (t + 1) (omega (arith, o .high, o .small))
+          (fresh w x q t a g h p cand s (o .near) (o .sum) (o .low) (o .high) k (o .small) (omega arith))
       by (no f) = ended t (omega arith) (lowered w x q t a g h p cand s (o .near) (o .sum) (o .low) (o .high) k (o .small) (omega arith))
 
   -- a side cell is blocked
@@ -133,7 +136,8 @@ fits-straight x p h cand low o even (upright _ e) =
 fits-straight x p h cand low o even (slanted odd _) = absurd (omega arith)
 
 move3 : (P : List ℕ → List ℕ → ℕ → Type 0) {x x′ q q′ : List ℕ} {t t′ : ℕ} → x ≡ x′ → q ≡ q′ → t ≡ t′ → P x q t → P x′ q′ t′
-move3 P {x} {x′} {q} {q′} {t} {t′} e f d k = subst (λ (z : ℕ). P x′ q′ z) d (subst (λ (l : List ℕ). P x′ l t) f (subst (λ (l : List ℕ). P l q t) e k))
+move3 P {x} {x′} {q} {q′} {t} {t′} e f d k =
+    subst (λ (z : ℕ). P x′ q′ z) d (subst (λ (l : List ℕ). P x′ l t) f (subst (λ (l : List ℕ). P l q t) e k))
 
 -- what the code's step does is one offer
 module _ (x q : List ℕ) (t p h cand c : ℕ) (change : Change) (x′ q′ : List ℕ) (t′ : ℕ) (in-table : h < 8) (read : change ≡ changeOf h) where

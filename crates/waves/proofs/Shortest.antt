@@ -121,7 +121,8 @@ module _ (f : Floor) (wide : 0 < f .width) (floor x : List ℕ) (m : Mapped f fl
       by (reached o k p) (inl e) = absurd (omega (arith, s .free (place y) (there h y z u .from)))
       by (reached o k p) (inr e) = absurd (omega (arith, over h y z u k, s .below (place z) k))
 
-  lengths : (y : ℕ) → ¬ Goal y → 0 < at x (place y) → at x (place y) < unreached → Least (graph f) T y (long (pair (at x (place y) - straightKey)))
+  lengths : (y : ℕ) → ¬ Goal y → 0 < at x (place y) → at x (place y) < unreached
+      → Least (graph f) T y (long (pair (at x (place y) - straightKey)))
   lengths y other o k = (some (s .support (place y) o k), all)
     where
       some : (place y ≡ place g) ⊎ Found floor x (place y) (at x (place y))
@@ -139,7 +140,7 @@ module _ (f : Floor) (wide : 0 < f .width) (floor x : List ℕ) (m : Mapped f fl
           let at-z : place z ≡ u .cell = ap₂ spot zc zr ∙ sym (m .place (u .cell) from) in
           let o′ = opens f floor m (y % f .width) (y / f .width) (narrow y) (u .step .to) in
           let p′ : f .Open (z % f .width) (z / f .width) = subst₂ (f .Open) (sym zc) (sym zr) p in
-          let st : WorkStep floor (u .heading) (place z) (place y) = subst (λ (i : ℕ). WorkStep floor (u .heading) i (place y)) (sym at-z) (u .step) in
+          let st = subst (λ (i : ℕ). WorkStep floor (u .heading) i (place y)) (sym at-z) (u .step) in
           let go = from-work f floor m ((u .heading + 4) % 8) _ _ _ _ o′ p′ (back floor (u .heading) (place z) (place y) (low z) (low y) st) in
           let same : at x (place z) ≡ at x (u .cell) = ap (at x) at-z in
           let free = s .free (u .cell) from in
@@ -149,7 +150,8 @@ module _ (f : Floor) (wide : 0 < f .width) (floor x : List ℕ) (m : Mapped f fl
           let e : weight ((u .heading + 4) % 8) ≡ weight (u .heading) = ap byParity parity in
           let entry-z = reads z (omega arith) (omega (arith, u .found)) n (kz .sum) in
           let sum : at x (place y) ≡ straightKey + key (n ⊕ weight (u .heading)) = omega (arith, u .sum, kz .sum, weight-key (u .heading)) in
-          ((u .heading + 4) % 8, z, n, go, entry-z, read floor (place g) x s (place y) k (n ⊕ weight (u .heading)) sum ∙ ap (λ (d : Length). n ⊕ d) (sym e))
+          let read-y = read floor (place g) x s (place y) k (n ⊕ weight (u .heading)) sum in
+          ((u .heading + 4) % 8, z, n, go, entry-z, read-y ∙ ap (λ (d : Length). n ⊕ d) (sym e))
         where
           reads : (z : ℕ) → 0 < at x (place z) → at x (place z) < unreached → (n : Length) → at x (place z) ≡ straightKey + key n → T z ≡ long n
           reads z o k n e = by (kind (at x (place z)))

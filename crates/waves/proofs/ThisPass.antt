@@ -41,7 +41,8 @@ these-none t mid end limit x q le = record {
   };
 }
 
-module _ (t₀ mid end limit : ℕ) (x₀ q₀ : List ℕ) (i last : ℕ) (x q : List ℕ) (t : ℕ) (s : These t₀ mid end limit x₀ q₀ i last x q t) (b : i < end) where
+module _ (t₀ mid end limit : ℕ) (x₀ q₀ : List ℕ) (i last : ℕ) (x q : List ℕ) (t : ℕ)
+    (s : These t₀ mid end limit x₀ q₀ i last x q t) (b : i < end) where
   abbrev c : ℕ
   c = getD q i 0
 
@@ -59,7 +60,10 @@ module _ (t₀ mid end limit : ℕ) (x₀ q₀ : List ℕ) (i last : ℕ) (x q :
     this-keep = ap (at x) this-same ∙ s .keeps w r .keep c₀ (omega (arith, this-cell .near, r .ends .same))
 
     now-this : This x limit c
-    now-this = let e = this-keep in let k = this-cell in record { free = omega (arith, k .free); after = omega (arith, k .after); near = omega (arith, k .near) }
+    now-this =
+        let e = this-keep in
+        let k = this-cell in
+        record { free = omega (arith, k .free); after = omega (arith, k .after); near = omega (arith, k .near) }
 
     pub this-safe : Safe x q i t
     this-safe =
@@ -109,23 +113,27 @@ module _ (t₀ mid end limit : ℕ) (x₀ q₀ : List ℕ) (i last : ℕ) (x q :
         stay : (j : ℕ) → j < last → getD q″ j 0 ≡ getD q j 0
         stay j m = getD-set-other q′ last j c 0 (omega arith) ∙ k .falls .queue j (omega (arith, in-end))
 
-        done : (j h d : ℕ) → mid ≤ j → j < i + 1 → WorkStep (w .floor) h (getD q₀ j 0) d → at x₀ (getD q₀ j 0) + cost h < w .limit + straightKey → Dec (j ≡ i)
-            → at x′ d ≤ at x₀ (getD q₀ j 0) + cost h
+        done : (j h d : ℕ) → mid ≤ j → j < i + 1 → WorkStep (w .floor) h (getD q₀ j 0) d
+            → at x₀ (getD q₀ j 0) + cost h < w .limit + straightKey → Dec (j ≡ i) → at x′ d ≤ at x₀ (getD q₀ j 0) + cost h
         done j h d m o u v (no e) = omega (arith, old .done j h d m (omega arith) u v, k .falls .low d)
         done j h d m o u v (yes e) =
             let f : getD q₀ j 0 ≡ c = ap (λ (z : ℕ). getD q₀ z 0) e ∙ sym (this-same w r) in
             let g : at x₀ (getD q₀ j 0) ≡ at x c = ap (λ (z : ℕ). at x₀ (getD q₀ z 0)) e ∙ sym (this-keep w r) in
             omega (arith, k .done h d (subst (λ (z : ℕ). WorkStep (w .floor) h z d) f u) (omega arith))
 
-        late : (j : ℕ) → mid ≤ j → j < last + n → Dec (j ≡ last) → Dec (limit ≤ at x₀ c₀ + (diagonalKey - straightKey)) → Late x₀ (w .limit + straightKey) (getD q″ j 0)
+        late : (j : ℕ) → mid ≤ j → j < last + n → Dec (j ≡ last) → Dec (limit ≤ at x₀ c₀ + (diagonalKey - straightKey))
+            → Late x₀ (w .limit + straightKey) (getD q″ j 0)
         late j m o (yes e) (yes z) =
             let t = this-cell w r in
             subst (Late x₀ (w .limit + straightKey)) (sym (ap (λ (y : ℕ). getD q″ y 0) e ∙ here))
             (record { free = t .free; after = omega (arith, r .ends .same); near = omega (arith, t .near, r .ends .same) })
         late j m o (yes e) (no z) = absurd (omega (arith, bit .early (omega (arith, value))))
-        late j m o (no e) z = let k = bit-bound (at x c) limit n bit in subst (Late x₀ (w .limit + straightKey)) (sym (stay j (omega arith))) (old .late j m (omega arith))
+        late j m o (no e) z =
+            let k = bit-bound (at x c) limit n bit in
+            subst (Late x₀ (w .limit + straightKey)) (sym (stay j (omega arith))) (old .late j m (omega arith))
 
-        listed : (j : ℕ) → mid ≤ j → j < i + 1 → w .limit ≤ at x₀ (getD q₀ j 0) + (diagonalKey - straightKey) → Dec (j ≡ i) → Listed q″ mid (last + n) (getD q₀ j 0)
+        listed : (j : ℕ) → mid ≤ j → j < i + 1 → w .limit ≤ at x₀ (getD q₀ j 0) + (diagonalKey - straightKey) → Dec (j ≡ i)
+            → Listed q″ mid (last + n) (getD q₀ j 0)
         listed j m o v (no e) =
             let f = old .listed j m (omega arith) v in
             record { index = f .index; here = stay (f .index) (f .before) ∙ f .here; after = f .after; before = omega (arith, f .before) }
@@ -135,7 +143,10 @@ module _ (t₀ mid end limit : ℕ) (x₀ q₀ : List ℕ) (i last : ℕ) (x q :
             record { index = last; here = here ∙ ap (λ (z : ℕ). getD q₀ z 0) (sym e); after = s .order .0; before = omega arith }
 
     pub these-more : These t₀ mid end limit x₀ q₀ (i + 1) (last + n) x′ q″ t′
-    these-more = record { order = (omega (arith, s .order), omega (arith, s .order, bit-bound (at x c) limit n bit), omega arith); keeps = more }
+    these-more = record {
+      order = (omega (arith, s .order), omega (arith, s .order, bit-bound (at x c) limit n bit), omega arith);
+      keeps = more;
+    }
 
 pub these-all : (t₀ mid end limit : ℕ) (x₀ q₀ : List ℕ) (i last : ℕ) (x q : List ℕ) (t : ℕ) → These t₀ mid end limit x₀ q₀ i last x q t → end ≤ i
     → ThisLeft t₀ mid end limit x₀ q₀ x q t last

@@ -82,7 +82,9 @@ module _ (m : Map) (goal entries : ℕ) (a : Fillable m goal entries) (x : List 
   behind = each x g straightKey goal-on (λ z v. 0 < v → Past m (z % stride) (z / stride)) (λ o. at-goal) (λ z e o. on z o)
     where
       on : (z : ℕ) → 0 < at x z → Past m (z % stride) (z / stride)
-      on z o = past m (z % stride) (z / stride) (number-holds (openPast m (z % stride) (z / stride)) (subst (λ (v : ℕ). 0 < v) (loaded-value z) o))
+      on z o =
+          past m (z % stride) (z / stride)
+          (number-holds (openPast m (z % stride) (z / stride)) (subst (λ (v : ℕ). 0 < v) (loaded-value z) o))
 
       at-goal : Past m (g % stride) (g / stride)
       at-goal =

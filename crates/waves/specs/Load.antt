@@ -4,9 +4,9 @@ use mathlib.Core.Path.{_≡_}
 use mathlib.Core.Bool.{Bool, true, false}
 use mathlib.Core.List.{List}
 use Prim.Native.Nat.{ℕ, _+_, _*_, _/_, _%_, _≤_, _<_}
-use lib.ListN.{getD, length}
-use Rattle.floor.specs.Floor.{Map, bytesPerRow, bit}
-use Rattle.floor.specs.Inner.{openPast}
+use lib.ListN.{length}
+use Rattle.floor.specs.Floor.{Map}
+use Rattle.floor.specs.Inner.{openPast, Sound}
 use Rattle.waves.specs.Work.{unreached, stride, at}
 
 -- the number of an open and of a blocked cell
@@ -18,15 +18,14 @@ numberOf false = 0
 unfoldable pub loaded : Map → ℕ → ℕ
 loaded m z = numberOf (openPast m (z % stride) (z / stride))
 
--- the bit of the cell in column c and row r of a map of this width
-abbrev pub bitAt : (width : ℕ) (bytes : List ℕ) (c r : ℕ) → ℕ
-bitAt width bytes c r = bit (c % 8) (getD bytes (r * bytesPerRow width + c / 8) 0)
-
--- that bit stands in the map
-pub record OnMap (width : ℕ) (bytes : List ℕ) (c r : ℕ) : Type 0 where
-  pub wide : width ≤ 128
-  pub high : r < 128
-  pub byte : r * bytesPerRow width + c / 8 < length bytes
+-- cells of one byte of an accepted floor's map: count of them, from column c of row r on
+pub record Run (m : Map) (r c count : ℕ) : Type 0 where
+  pub sound : Sound m
+  pub row : r < m .height
+  pub aligned : c % 8 ≡ 0
+  pub column : c < m .width
+  pub few : count ≤ 8
+  pub inside : c + count ≤ m .width
 
 -- the work array has the floor's rows and a border row before and after them
 pub record Tall (m : Map) (x : List ℕ) : Type 0 where

@@ -19,11 +19,11 @@ stride = 130
 
 -- the largest work array: 128 rows and the border
 abbrev pub largest : ℕ
-largest = 16900
+largest = stride * stride
 
 -- a bound of all numbers that are reached: no wave is empty, so there are no more waves than cells
 abbrev pub highest : ℕ
-highest = 234261720
+highest = straightKey * (largest + 2)
 
 -- the number at a place
 abbrev pub at : List ℕ → ℕ → ℕ

@@ -25,8 +25,15 @@ pub const STRAIGHT: u32 = 13860;
 
 pub const DIAGONAL: u32 = 19601;
 
-// How far apart the rows of the work array are.
+// How far apart the rows of the work array are: 128 cells and the border.
 pub const STRIDE: usize = 130;
+
+// The rows that the small scratch has room for, and the places of the small and of the large scratch.
+const LOW: usize = 18;
+
+const SMALL: usize = 2600;
+
+const LARGE: usize = 16900;
 
 // Fills the table over lent scratch.
 fn fill_in(
@@ -55,8 +62,8 @@ fn fill_low(width: usize, height: usize, map: &[u8], goal: usize, table: &mut [u
     requires { ⌜ Fillable (mapOf width height (now map)) goal (length (now table)) ⌝ }
     ensures { λ r. ⌜ Filled (stepsOf (mapOf width height (now (map .entry)))) (Only goal) (cells (mapOf width height (now (map .entry)))) (now (table .exit)) ⌝ }
 {
-    let mut work = [0u32; 2600];
-    let mut queue = [0u16; 2601];
+    let mut work = [0u32; SMALL];
+    let mut queue = [0u16; SMALL + 1];
     fill_in(&mut work, &mut queue, width, height, map, goal, table);
 }
 
@@ -65,8 +72,8 @@ fn fill_any(width: usize, height: usize, map: &[u8], goal: usize, table: &mut [u
     requires { ⌜ Fillable (mapOf width height (now map)) goal (length (now table)) ⌝ }
     ensures { λ r. ⌜ Filled (stepsOf (mapOf width height (now (map .entry)))) (Only goal) (cells (mapOf width height (now (map .entry)))) (now (table .exit)) ⌝ }
 {
-    let mut work = [0u32; 16900];
-    let mut queue = [0u16; 16901];
+    let mut work = [0u32; LARGE];
+    let mut queue = [0u16; LARGE + 1];
     fill_in(&mut work, &mut queue, width, height, map, goal, table);
 }
 
@@ -77,7 +84,7 @@ pub fn fill_table(width: usize, height: usize, map: &[u8], goal: usize, table: &
     requires { ⌜ length (now table) ≡ height * width ⌝ }
     ensures { λ r. ⌜ Filled (stepsOf (mapOf width height (now (map .entry)))) (Only goal) (cells (mapOf width height (now (map .entry)))) (now (table .exit)) ⌝ }
 {
-    if height <= 18 {
+    if height <= LOW {
         fill_low(width, height, map, goal, table);
     } else {
         fill_any(width, height, map, goal, table);

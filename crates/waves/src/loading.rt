@@ -1,20 +1,19 @@
 // The map's bytes into the work array.
 ghost use mathlib.Core.Path.{_≡_};
-ghost use Prim.Native.Nat.{_-_, _*_, _<_};
-ghost use Rattle.floor.specs.Floor.{mapOf};
+ghost use Prim.Native.Nat.{_+_, _-_, _*_, _<_};
+ghost use Rattle.floor.specs.Floor.{mapOf, bit};
 ghost use Rattle.floor.specs.Inner.{Sound};
 ghost use Rattle.waves.specs.Work.{unreached, spot};
-ghost use Rattle.waves.specs.Load.{bitAt, OnMap, Prefix};
+ghost use Rattle.waves.specs.Load.{Run, Prefix};
 use crate::STRIDE;
 use crate::UNREACHED;
 
-// The map's bit of the cell in this column and row: 1 if it is blocked.
-fn bit_of(map: &[u8], width: usize, column: usize, row: usize) -> u8
-    requires { ⌜ OnMap width (now map) column row ⌝ }
-    ensures { λ r. ⌜ r ≡ bitAt width (now (map .entry)) column row ⌝ }
+// A byte's bit: 1 if its cell is blocked.
+fn bit_of(byte: u8, place: usize) -> u8
+    requires { ⌜ place < 8 ⌝ }
+    ensures { λ r. ⌜ r ≡ bit place byte ⌝ }
 {
-    let byte = row * ((width + 7) / 8) + column / 8;
-    (map[byte] >> (column % 8)) & 1
+    (byte >> place) & 1
 }
 
 // The number of a cell with this bit: 0 if it is blocked.
@@ -25,7 +24,30 @@ fn number_of(bit: u8) -> u32
     (1 - bit as u32) * UNREACHED
 }
 
-// The cells of one row.
+// The first cells of one map byte, as many as count says.
+fn load_byte(
+    work: &mut [u32],
+    width: usize,
+    height: usize,
+    map: &[u8],
+    row: usize,
+    column: usize,
+    count: usize,
+)
+    requires { ⌜ Run (mapOf width height (now map)) row column count ⌝ }
+    requires { ⌜ Prefix (mapOf width height (now map)) (spot column row) (now work) ⌝ }
+    ensures { λ r. ⌜ Prefix (mapOf width height (now (map .entry))) (spot (column + count) row) (now (work .exit)) ⌝ }
+{
+    let byte = map[row * ((width + 7) / 8) + column / 8];
+    let first = (row + 1) * STRIDE + column + 1;
+    let mut i: usize = 0;
+    while i < count {
+        work[first + i] = number_of(bit_of(byte, i));
+        i += 1;
+    }
+}
+
+// The cells of one row, byte after byte.
 fn load_row(work: &mut [u32], width: usize, height: usize, map: &[u8], row: usize)
     requires { ⌜ Sound (mapOf width height (now map)) ⌝ }
     requires { ⌜ row < height ⌝ }
@@ -33,10 +55,12 @@ fn load_row(work: &mut [u32], width: usize, height: usize, map: &[u8], row: usiz
     ensures { λ r. ⌜ Prefix (mapOf width height (now (map .entry))) (spot width row) (now (work .exit)) ⌝ }
 {
     let mut column: usize = 0;
-    while column < width {
-        let bit = bit_of(map, width, column, row);
-        work[(row + 1) * STRIDE + column + 1] = number_of(bit);
-        column += 1;
+    while column + 8 <= width {
+        load_byte(work, width, height, map, row, column, 8);
+        column += 8;
+    }
+    if column < width {
+        load_byte(work, width, height, map, row, column, width - column);
     }
 }
 

@@ -1,6 +1,6 @@
 // Offers: a step out of a cell offers the cell that it leads to a number, its own and what the step adds.
 ghost use mathlib.Core.Path.{_≡_};
-ghost use Prim.Native.Nat.{ℕ, _-_, _/_, _%_, _<_, _≤_, min};
+ghost use Prim.Native.Nat.{_-_, _/_, _%_, _<_, _≤_, min};
 ghost use lib.ListN.{length};
 ghost use Rattle.waves.specs.Work.{unreached, Inside, Room};
 ghost use Rattle.waves.specs.Taken.{OfferMade, Past, StepsLeft};
@@ -61,7 +61,8 @@ fn step(
     let change = floor::steps::change_of(heading);
     let place = from + change.row * STRIDE + change.column - (STRIDE + 1);
     if heading % 2 == 0 {
-        return offer(work, queue, tail, place, number);
+        // the remainder is the number itself: it tells the compiler that a straight step's number always counts
+        return offer(work, queue, tail, place, number % UNREACHED);
     }
     let side = from + change.row * STRIDE - STRIDE;
     let other = from + change.column - 1;

@@ -2,7 +2,6 @@
 ghost use mathlib.Core.Path.{_≡_};
 ghost use Prim.Native.Nat.{_+_, _*_, _<_};
 ghost use lib.ListN.{length};
-ghost use Rattle.floor.specs.Floor.{mapOf};
 ghost use Rattle.entries.specs.Entry.{pack};
 ghost use Rattle.waves.specs.Store.{entryOf, Readable, Storable, Stored};
 use crate::DIAGONAL;

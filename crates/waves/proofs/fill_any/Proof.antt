@@ -13,7 +13,9 @@ slice-aggregate-fill-in-2 : tie.Need-slice-aggregate-fill-in-2
 slice-aggregate-fill-in-2 c = search needs
 
 fill-in-requires : tie.Need-fill-in-requires
-fill-in-requires c κs = (scratch _ 16900 (omega arith) (omega (arith, c .before .before .before .before .before .pre .sound .high)), c .before .before .before .before .before .pre)
+fill-in-requires c κs =
+    let p = c .before .before .before .before .before .pre in
+    (scratch _ 16900 (omega arith) (omega (arith, p .sound .high)), p)
 
 same-length : tie.Need-same-length
 same-length c = search needs

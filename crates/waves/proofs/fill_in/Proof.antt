@@ -2,11 +2,11 @@
 -- stored.
 -- Assumes nothing.
 use mathlib.Core.Path.{_∙_}
-use Prim.Native.Nat.{_+_, _*_, _/_, _%_, _<_}
+use Prim.Native.Nat.{_/_, _%_, _<_}
 use native.Mathlib.Omega.{arith}
 use lib.ListN.{length-set}
 use borrow.Author.Needs.{needs}
-use Rattle.waves.specs.Work.{stride, largest}
+use Rattle.waves.specs.Work.{largest, spot}
 use Rattle.waves.proofs.MapLoaded.{prefix-none}
 use Rattle.waves.proofs.WholeFill.{goal-on, ready, storable, filled}
 use Rattle.waves.proofs.fill_in.Statement.{statement}
@@ -14,13 +14,15 @@ use Rattle.waves.proofs.fill_in.Tie as tie
 
 load-map-requires : tie.Need-load-map-requires
 load-map-requires c κs =
-    let scratch = c .before .before .before .before .before .pre .0 in
-    let s = c .before .before .before .before .before .pre .1 .sound in
-    (s, prefix-none _ s _ (scratch .cleared) (scratch .tall))
+    let p = c .before .before .before .before .before .pre in
+    let s = p .1 .sound in
+    (s, prefix-none _ s _ (p .0 .cleared) (p .0 .tall))
 
 -- the goal's place is in the work array, which is not large
-inside : (c : tie.After-load-map) → (c .before .before .before .before .before .before .args .goal / c .before .before .before .before .before .before .args .width + 1) * stride + c .before .before .before .before .before .before .args .goal % c .before .before .before .before .before .before .args .width + 1 < largest
-inside c = omega (arith, goal-on _ _ _ (c .before .before .before .before .before .before .pre .1) _ (c .load-map .ensures), c .load-map .kept .0, c .before .before .before .before .before .before .pre .0 .few)
+inside : (c : tie.After-load-map) → let a = c .before .before .before .before .before .before .args in spot (a .goal % a .width) (a .goal / a .width) < largest
+inside c =
+    let p = c .before .before .before .before .before .before .pre in
+    omega (arith, goal-on _ _ _ (p .1) _ (c .load-map .ensures), c .load-map .kept .0, p .0 .few)
 
 div-place : tie.Need-div-place
 div-place c = search needs
@@ -44,18 +46,28 @@ mul-work : tie.Need-mul-work
 mul-work c = omega (arith, inside (c .before .before))
 
 slice-write-work : tie.Need-slice-write-work
-slice-write-work c = goal-on _ _ _ (c .before .before .before .before .before .before .before .before .pre .1) _ (c .before .before .load-map .ensures)
+slice-write-work c =
+    let p = c .before .before .before .before .before .before .before .before .pre in
+    goal-on _ _ _ (p .1) _ (c .before .before .load-map .ensures)
 
 all-waves-requires : tie.Need-all-waves-requires
 all-waves-requires c κs =
-    let k = c .before .before .before .before .load-map .kept .0 in
-    ready _ _ _ (c .before .before .before .before .before .before .before .before .before .before .pre .1) _ (c .before .before .before .before .load-map .ensures) _ (omega (arith, k, c .before .before .before .before .before .before .before .before .before .before .pre .0 .few)) (omega (arith, k, c .before .before .before .before .before .before .before .before .before .before .pre .0 .places))
+    let p = c .before .before .before .before .before .before .before .before .before .before .pre in
+    let l = c .before .before .before .before .load-map in
+    ready _ _ _ (p .1) _ (l .ensures) _ (omega (arith, l .kept .0, p .0 .few)) (omega (arith, l .kept .0, p .0 .places))
 
 store-table-requires : tie.Need-store-table-requires
-store-table-requires c κs = (storable _ _ _ (c .before .before .before .before .before .before .before .before .before .before .before .before .before .before .before .before .before .pre .1) _ (c .before .before .before .before .before .before .before .before .before .before .before .load-map .ensures) _ (c .before .before .before .before .before .before .all-waves .ensures), c .before .before .before .before .before .before .before .before .before .before .before .before .before .before .before .before .before .pre .1 .table)
+store-table-requires c κs =
+    let p = c .before .before .before .before .before .before .before .before .before .before .before .before .before .before .before .before .before .pre in
+    let l = c .before .before .before .before .before .before .before .before .before .before .before .load-map in
+    let w = c .before .before .before .before .before .before .all-waves in
+    (storable _ _ _ (p .1) _ (l .ensures) _ (w .ensures), p .1 .table)
 
 same-length : tie.Need-same-length
-same-length c = (simp length-set at (c .before .before .before .before .before .before .before .before .before .all-waves .kept .0)) ∙ c .before .before .before .before .before .before .before .before .before .before .before .before .before .before .load-map .kept .0
+same-length c =
+    let l = c .before .before .before .before .before .before .before .before .before .before .before .before .before .before .load-map in
+    let w = c .before .before .before .before .before .before .before .before .before .all-waves in
+    (simp length-set at (w .kept .0)) ∙ l .kept .0
 
 same-length-2 : tie.Need-same-length-2
 same-length-2 c = search needs
@@ -64,7 +76,11 @@ same-length-3 : tie.Need-same-length-3
 same-length-3 c = search needs
 
 returns : tie.Need-returns
-returns c = filled _ _ _ (c .before .before .before .before .before .before .before .before .before .before .before .before .before .before .before .before .before .before .before .before .pre .1) _ (c .before .before .before .before .before .before .before .before .before .before .before .before .before .before .load-map .ensures) _ (c .before .before .before .before .before .before .before .before .before .all-waves .ensures) _ (c .before .before .store-table .ensures)
+returns c =
+    let p = c .before .before .before .before .before .before .before .before .before .before .before .before .before .before .before .before .before .before .before .before .pre in
+    let l = c .before .before .before .before .before .before .before .before .before .before .before .before .before .before .load-map in
+    let w = c .before .before .before .before .before .before .before .before .before .all-waves in
+    filled _ _ _ (p .1) _ (l .ensures) _ (w .ensures) _ (c .before .before .store-table .ensures)
 
 pub fill-in-spec : {M : Type 1} → statement M
 fill-in-spec =

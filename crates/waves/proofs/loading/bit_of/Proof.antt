@@ -5,18 +5,6 @@ use borrow.Author.Needs.{needs}
 use Rattle.waves.proofs.loading.bit_of.Statement.{statement}
 use Rattle.waves.proofs.loading.bit_of.Tie as tie
 
-add-byte : tie.Need-add-byte
-add-byte c = search needs
-
-mul-byte : tie.Need-mul-byte
-mul-byte c = search needs
-
-add-byte-2 : tie.Need-add-byte-2
-add-byte-2 c = search needs
-
-shared-slice-read-result : tie.Need-shared-slice-read-result
-shared-slice-read-result c = search needs
-
 cast-result : tie.Need-cast-result
 cast-result c = search needs
 
@@ -27,4 +15,4 @@ returns : tie.Need-returns
 returns c = and-mask _ 1
 
 pub bit-of-spec : {M : Type 1} → statement M
-bit-of-spec = tie.close (tie.spec add-byte mul-byte add-byte-2 shared-slice-read-result cast-result shr-result returns)
+bit-of-spec = tie.close (tie.spec cast-result shr-result returns)

@@ -3,7 +3,6 @@
 use mathlib.Core.Path.{refl, _∙_}
 use Prim.Native.Nat.{_-_}
 use native.Mathlib.Omega.{arith}
-use borrow.Author.Needs.{needs}
 use Rattle.floor.specs.Floor.{mapOf}
 use Rattle.waves.proofs.Kept.{RowsLoaded}
 use Rattle.waves.proofs.MapLoaded.{prefix-row, rows-all}

@@ -50,6 +50,7 @@ same-length-2 c = search needs
 returns : tie.Need-returns
 returns c =
     let a = c .before .before .before .before .before .args in
+    let r = c .before .before .before .before .before .pre .1 in
     let e = c .before .lesser .ensures in
     let n = c .newly .ensures .0 in
     record {
@@ -58,7 +59,7 @@ returns c =
       end = omega (arith, ap (λ (z : ℕ). z / unreached) e, n);
       room =
           subst (Room _ _) (ap (λ (z : ℕ). a .tail + z) (sym n))
-          (room-offer (a .work .now) (a .queue .now) (a .tail) (a .place) (c .before .lesser .result) (omega arith) (c .before .before .before .before .before .pre .1));
+          (room-offer (a .work .now) (a .queue .now) (a .tail) (a .place) (c .before .lesser .result) (omega arith) r);
     }
 
 pub offer-spec : {M : Type 1} → statement M

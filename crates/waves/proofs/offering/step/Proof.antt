@@ -1,8 +1,10 @@
 -- `waves::offering::step` meets its contract: it makes one offer, to the place where the heading leads, past the two cells beside.
 -- Assumes nothing.
-use mathlib.Core.Path.{refl}
+use Prim.Native.Nat.{_%_}
+use native.Mathlib.Nat.{mod-eq-of-lt}
 use native.Mathlib.Omega.{arith}
 use borrow.Author.Needs.{needs}
+use Rattle.waves.specs.Work.{unreached}
 use Rattle.waves.proofs.Turns.{Small, small-change}
 use Rattle.waves.proofs.OneStep.{straight-left, diagonal-left}
 use Rattle.waves.proofs.offering.step.Statement.{statement}
@@ -31,7 +33,9 @@ sub-place : tie.Need-sub-place
 sub-place c = search needs
 
 offer-requires : tie.Need-offer-requires
-offer-requires c κs = (omega (arith, small (c .before .before .before .before .before), c .before .before .before .before .before .before .before .before .pre .0), c .before .before .before .before .before .before .before .before .pre .1 .1 .0)
+offer-requires c κs =
+    let p = c .before .before .before .before .before .before .before .before .pre in
+    (omega (arith, small (c .before .before .before .before .before), p .0), p .1 .1 .0)
 
 same-length : tie.Need-same-length
 same-length c = search needs
@@ -44,8 +48,9 @@ returns c =
     let a = c .before .before .before .before .before .before .before .before .before .before .before .before .before .args in
     let p = c .before .before .before .before .before .before .before .before .before .before .before .before .before .pre in
     let change = c .before .before .before .before .before .before .before .before .before .before .change-of in
-    straight-left (a .work .now) (a .queue .now) (a .tail) (a .from) (a .heading) (a .number) (a .number) (change .result) _ _ _
-    (p .1 .0) (change .ensures) refl (p .0) (c .before .before .before .before .before .before .before .if1 .taken) (c .before .before .before .before .offer .ensures)
+    let even = c .before .before .before .before .before .before .before .if1 in
+    straight-left (a .work .now) (a .queue .now) (a .tail) (a .from) (a .heading) (a .number) (a .number % unreached) (change .result) _ _ _
+    (p .1 .0) (change .ensures) (mod-eq-of-lt (p .1 .1 .1)) (p .0) (even .taken) (c .before .before .before .before .offer .ensures)
 
 mul-side : tie.Need-mul-side
 mul-side c = omega (arith, small (c .before .before .before .before))
@@ -63,22 +68,32 @@ sub-other : tie.Need-sub-other
 sub-other c = search needs
 
 mul-past : tie.Need-mul-past
-mul-past c = omega (arith, small (c .before .before .before .before .before), c .before .before .before .before .before .before .before .before .pre .0, c .before .before .before .before .before .before .before .before .pre .1 .1 .0)
+mul-past c =
+    let p = c .before .before .before .before .before .before .before .before .pre in
+    omega (arith, small (c .before .before .before .before .before), p .0, p .1 .1 .0)
 
 slice-read-past : tie.Need-slice-read-past
-slice-read-past c = omega (arith, small (c .before .before .before .before .before .before), c .before .before .before .before .before .before .before .before .before .pre .0)
+slice-read-past c =
+    let p = c .before .before .before .before .before .before .before .before .before .pre in
+    omega (arith, small (c .before .before .before .before .before .before), p .0)
 
 mul-past-2 : tie.Need-mul-past-2
-mul-past-2 c = omega (arith, small (c .before .before .before .before .before .before), c .before .before .before .before .before .before .before .before .before .pre .0, c .before .before .before .before .before .before .before .before .before .pre .1 .1 .0)
+mul-past-2 c =
+    let p = c .before .before .before .before .before .before .before .before .before .pre in
+    omega (arith, small (c .before .before .before .before .before .before), p .0, p .1 .1 .0)
 
 slice-read-past-2 : tie.Need-slice-read-past-2
-slice-read-past-2 c = omega (arith, small (c .before .before .before .before .before .before .before), c .before .before .before .before .before .before .before .before .before .before .pre .0)
+slice-read-past-2 c =
+    let p = c .before .before .before .before .before .before .before .before .before .before .pre in
+    omega (arith, small (c .before .before .before .before .before .before .before), p .0)
 
 past-requires : tie.Need-past-requires
 past-requires c κs = search needs
 
 offer-requires-2 : tie.Need-offer-requires-2
-offer-requires-2 c κs = (omega (arith, small (c .before .before .before .before .before .before .before .before .before .before), c .before .before .before .before .before .before .before .before .before .before .before .before .before .pre .0), c .before .before .before .before .before .before .before .before .before .before .before .before .before .pre .1 .1 .0)
+offer-requires-2 c κs =
+    let p = c .before .before .before .before .before .before .before .before .before .before .before .before .before .pre in
+    (omega (arith, small (c .before .before .before .before .before .before .before .before .before .before), p .0), p .1 .1 .0)
 
 same-length-3 : tie.Need-same-length-3
 same-length-3 c = search needs

@@ -8,14 +8,17 @@ use Rattle.waves.proofs.offering.steps.Statement.{statement}
 use Rattle.waves.proofs.offering.steps.Tie as tie
 
 abbrev Inv-loop : tie.InvT-loop
-Inv-loop work₀ queue₀ tail from first number end₀ heading₀ work queue end heading = Headings first from number tail work₀ queue₀ heading work queue end
+Inv-loop work₀ queue₀ tail from first number end₀ heading₀ work queue end heading =
+    Headings first from number tail work₀ queue₀ heading work queue end
 
 abbrev μ-loop : tie.MeasureT-loop
 μ-loop work₀ queue₀ tail from first number end₀ heading₀ work queue end heading = 10 - heading
 
 loop-holds : tie.Need-loop-holds Inv-loop μ-loop
 loop-holds c =
-    headings-none (c .before .before .args .first) (c .before .before .args .from) (c .before .before .args .number) (c .before .before .args .tail) _ _ (c .before .before .pre .1 .0) (c .before .before .pre .1 .1 .0)
+    let a = c .before .before .args in
+    let p = c .before .before .pre in
+    headings-none (a .first) (a .from) (a .number) (a .tail) _ _ (p .1 .0) (p .1 .1 .0)
 
 step-requires : tie.Need-step-requires Inv-loop μ-loop
 step-requires c κs =
@@ -30,13 +33,18 @@ loop-less : tie.Need-loop-less Inv-loop μ-loop
 loop-less c = omega (arith, c .before .before .before .before .before .before .before .loop-test .taken)
 
 loop-again : tie.Need-loop-again Inv-loop μ-loop
-loop-again c = headings-more _ _ _ _ _ _ _ _ _ _ _ _ _ (c .before .before .before .before .before .before .before .before .loop .inv) (c .before .before .before .before .before .before .before .loop-test .taken) (c .before .before .before .before .step .ensures)
+loop-again c =
+    let turn = c .before .before .before .before .before .before .before in
+    headings-more _ _ _ _ _ _ _ _ _ _ _ _ _ (turn .before .loop .inv) (turn .loop-test .taken) (c .before .before .before .before .step .ensures)
 
 same-length : tie.Need-same-length Inv-loop μ-loop
 same-length c = c .before .loop .inv .left .size
 
 same-length-2 : tie.Need-same-length-2 Inv-loop μ-loop
-same-length-2 c = omega (arith, c .before .loop .inv .left .size, c .before .loop .inv .left .room .places, c .before .before .before .before .pre .1 .1 .0 .places)
+same-length-2 c =
+    let p = c .before .before .before .before .pre in
+    let l = c .before .loop .inv .left in
+    omega (arith, l .size, l .room .places, p .1 .1 .0 .places)
 
 returns : tie.Need-returns Inv-loop μ-loop
 returns c = headings-all _ _ _ _ _ _ _ _ _ _ (c .before .loop .inv) (c .loop-test .left)

@@ -1,7 +1,6 @@
 -- `waves::passing::all_waves` meets its contract. The invariant: what holds between waves. No wave is empty, so there are no more waves than
 -- cells.
 -- Assumes nothing.
-use mathlib.Core.Path.{sym, _∙_}
 use Prim.Native.Nat.{_+_, _-_}
 use native.Mathlib.Omega.{arith}
 use borrow.Author.Needs.{needs}
@@ -30,26 +29,38 @@ mul-limit : tie.Need-mul-limit Inv-loop μ-loop
 mul-limit c = search needs
 
 loop-holds : tie.Need-loop-holds Inv-loop μ-loop
-loop-holds c = begin (c .before .before .args .work .now) (c .before .before .args .queue .now) (c .before .before .args .goal) (c .before .before .pre)
+loop-holds c =
+    let a = c .before .before .args in
+    begin (a .work .now) (a .queue .now) (a .goal) (c .before .before .pre)
 
 late-steps-requires : tie.Need-late-steps-requires Inv-loop μ-loop
-late-steps-requires c κs = record { wave = _; ready = late-ready _ _ _ _ _ _ _ _ _ (c .before .before .before .loop .inv) (c .before .before .loop-test .taken) }
+late-steps-requires c κs =
+    let turn = c .before .before in
+    record { wave = _; ready = late-ready _ _ _ _ _ _ _ _ _ (turn .before .loop .inv) (turn .loop-test .taken) }
 
 this-steps-requires : tie.Need-this-steps-requires Inv-loop μ-loop
-this-steps-requires c κs = record {
-  wave = _;
-  ready = this-ready _ _ _ _ _ _ _ _ _ (c .before .before .before .before .before .before .before .before .before .before .loop .inv) (c .before .before .before .before .before .before .before .before .before .loop-test .taken) _ _ _ (c .before .before .before .before .before .before .late-steps .ensures);
-}
+this-steps-requires c κs =
+    let turn = c .before .before .before .before .before .before .before .before .before in
+    let l = c .before .before .before .before .before .before .late-steps .ensures in
+    record { wave = _; ready = this-ready _ _ _ _ _ _ _ _ _ (turn .before .loop .inv) (turn .loop-test .taken) _ _ _ l }
 
 add-limit : tie.Need-add-limit Inv-loop μ-loop
-add-limit c = let i = c .before .before .before .before .before .before .before .before .before .before .before .before .before .before .before .loop .inv in omega (arith, i .count, i .going .room, c .before .before .before .before .before .before .before .before .before .before .before .before .before .before .loop-test .taken)
+add-limit c =
+    let turn = c .before .before .before .before .before .before .before .before .before .before .before .before .before .before in
+    let i = turn .before .loop .inv in
+    omega (arith, i .count, i .going .room, turn .loop-test .taken)
 
 loop-less : tie.Need-loop-less Inv-loop μ-loop
-loop-less c = let g = c .before .before .before .before .before .before .before .before .before .before .before .before .before .before .before .loop .inv .going in omega (arith, g .room, g .cells, c .before .before .before .before .before .before .before .before .before .before .before .before .before .before .loop-test .taken)
+loop-less c =
+    let turn = c .before .before .before .before .before .before .before .before .before .before .before .before .before .before in
+    let g = turn .before .loop .inv .going in
+    omega (arith, g .room, g .cells, turn .loop-test .taken)
 
 loop-again : tie.Need-loop-again Inv-loop μ-loop
 loop-again c =
-    next _ _ _ _ _ _ _ _ _ (c .before .before .before .before .before .before .before .before .before .before .before .before .before .before .before .loop .inv) (c .before .before .before .before .before .before .before .before .before .before .before .before .before .before .loop-test .taken) _ _ _ (c .before .before .before .before .before .before .before .before .before .before .before .late-steps .ensures) _ _ _ _ (c .before .before .before .before .this-steps .ensures)
+    let turn = c .before .before .before .before .before .before .before .before .before .before .before .before .before .before in
+    let l = c .before .before .before .before .before .before .before .before .before .before .before .late-steps .ensures in
+    next _ _ _ _ _ _ _ _ _ (turn .before .loop .inv) (turn .loop-test .taken) _ _ _ l _ _ _ _ (c .before .before .before .before .this-steps .ensures)
 
 same-length : tie.Need-same-length Inv-loop μ-loop
 same-length c = c .before .loop .inv .going .cells

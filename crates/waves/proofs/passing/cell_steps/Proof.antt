@@ -31,7 +31,9 @@ same-length-2 : tie.Need-same-length-2
 same-length-2 c = search needs
 
 returns : tie.Need-returns
-returns c = cell-left _ _ _ _ _ _ _ _ _ _ _ _ refl (c .before .before .before .before .before .before .before .before .before .before .before .steps .ensures) (c .before .before .before .before .early-steps .ensures)
+returns c =
+    let straight = c .before .before .before .before .before .before .before .before .before .before .before .steps .ensures in
+    cell-left _ _ _ _ _ _ _ _ _ _ _ _ refl straight (c .before .before .before .before .early-steps .ensures)
 
 pub cell-steps-spec : {M : Type 1} → statement M
 cell-steps-spec =

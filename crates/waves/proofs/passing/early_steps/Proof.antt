@@ -21,7 +21,9 @@ same-length-2 : tie.Need-same-length-2
 same-length-2 c = search needs
 
 returns-2 : tie.Need-returns-2
-returns-2 c = early-some _ _ _ _ _ _ _ _ _ (c .before .before .before .before .before .before .before .if1 .left) (c .before .before .before .before .steps .ensures)
+returns-2 c =
+    let early = c .before .before .before .before .before .before .before .if1 .left in
+    early-some _ _ _ _ _ _ _ _ _ early (c .before .before .before .before .steps .ensures)
 
 pub early-steps-spec : {M : Type 1} → statement M
 early-steps-spec = tie.close (tie.spec add-if1 returns steps-requires same-length same-length-2 returns-2)

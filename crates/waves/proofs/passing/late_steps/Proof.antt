@@ -19,7 +19,9 @@ loop-holds c = lates-none _ _ _ _ _
 
 -- the cell at i can be stepped out of
 safe : (c : tie.In-loop Inv-loop μ-loop) → Safe (c .before .loop .work) (c .before .loop .queue) (c .before .loop .i) (c .before .loop .end)
-safe c = late-safe _ _ _ _ _ _ _ _ _ (c .before .loop .inv) (c .loop-test .taken) (c .before .before .before .before .pre .wave) (c .before .before .before .before .pre .ready)
+safe c =
+    let p = c .before .before .before .before .pre in
+    late-safe _ _ _ _ _ _ _ _ _ (c .before .loop .inv) (c .loop-test .taken) (p .wave) (p .ready)
 
 mul-from : tie.Need-mul-from Inv-loop μ-loop
 mul-from c = let k = safe c in omega (arith, k .index, k .room)
@@ -49,7 +51,9 @@ loop-less : tie.Need-loop-less Inv-loop μ-loop
 loop-less c = omega (arith, c .before .before .before .before .before .before .before .before .before .loop-test .taken)
 
 loop-again : tie.Need-loop-again Inv-loop μ-loop
-loop-again c = lates-more _ _ _ _ _ _ _ _ _ (c .before .before .before .before .before .before .before .before .before .before .loop .inv) (c .before .before .before .before .before .before .before .before .before .loop-test .taken) _ _ _ _ refl (c .before .before .before .before .steps .ensures)
+loop-again c =
+    let turn = c .before .before .before .before .before .before .before .before .before in
+    lates-more _ _ _ _ _ _ _ _ _ (turn .before .loop .inv) (turn .loop-test .taken) _ _ _ _ refl (c .before .before .before .before .steps .ensures)
 
 same-length : tie.Need-same-length Inv-loop μ-loop
 same-length c =

@@ -21,7 +21,9 @@ loop-holds c = these-none _ _ _ _ _ _ (c .before .before .pre .ready .order)
 
 -- the cell at i can be stepped out of
 safe : (c : tie.In-loop Inv-loop μ-loop) → Safe (c .before .loop .work) (c .before .loop .queue) (c .before .loop .i) (c .before .loop .t)
-safe c = this-safe _ _ _ _ _ _ _ _ _ _ _ (c .before .loop .inv) (c .loop-test .taken) (c .before .before .before .before .pre .wave) (c .before .before .before .before .pre .ready)
+safe c =
+    let p = c .before .before .before .before .pre in
+    this-safe _ _ _ _ _ _ _ _ _ _ _ (c .before .loop .inv) (c .loop-test .taken) (p .wave) (p .ready)
 
 mul-from : tie.Need-mul-from Inv-loop μ-loop
 mul-from c = let k = safe c in omega (arith, k .index, k .room)
@@ -39,24 +41,33 @@ slice-read-number : tie.Need-slice-read-number Inv-loop μ-loop
 slice-read-number c = omega (arith, safe (c .before .before) .inside)
 
 cell-steps-requires : tie.Need-cell-steps-requires Inv-loop μ-loop
-cell-steps-requires c κs = let k = safe (c .before .before .before .before) in (k .inside, ((c .before .before .before .before .before .before .before .before .pre .ready .ends .small, k .small), k .room))
+cell-steps-requires c κs =
+    let p = c .before .before .before .before .before .before .before .before .pre in
+    let k = safe (c .before .before .before .before) in
+    (k .inside, ((p .ready .ends .small, k .small), k .room))
 
 cast-queue : tie.Need-cast-queue Inv-loop μ-loop
 cast-queue c = let k = safe (c .before .before .before .before .before .before .before .before .before) in omega (arith, k .inside, k .room)
 
 mul-queue : tie.Need-mul-queue Inv-loop μ-loop
-mul-queue c = let k = safe (c .before .before .before .before .before .before .before .before .before) in omega (arith, k .index, k .room, c .before .before .before .before .before .before .before .before .before .before .loop .inv .order)
+mul-queue c =
+    let turn = c .before .before .before .before .before .before .before .before .before in
+    let k = safe turn in
+    omega (arith, k .index, k .room, turn .before .loop .inv .order)
 
 slice-write-queue : tie.Need-slice-write-queue Inv-loop μ-loop
-slice-write-queue c = omega (arith, safe (c .before .before .before .before .before .before .before .before .before) .index, c .before .before .before .before .before .before .before .before .before .before .loop .inv .order, c .before .before .before .before .cell-steps .kept .1 .0)
+slice-write-queue c =
+    let turn = c .before .before .before .before .before .before .before .before .before in
+    omega (arith, safe turn .index, turn .before .loop .inv .order, c .before .before .before .before .cell-steps .kept .1 .0)
 
 late-of-requires : tie.Need-late-of-requires Inv-loop μ-loop
 late-of-requires c κs = safe (c .before .before .before .before .before .before .before .before .before) .small
 
 add-last : tie.Need-add-last Inv-loop μ-loop
 add-last c =
-    let k = safe (c .before .before .before .before .before .before .before .before .before .before) in
-    omega (arith, bit-bound _ _ _ (c .late-of .ensures), k .index, k .room, c .before .before .before .before .before .before .before .before .before .before .before .loop .inv .order)
+    let turn = c .before .before .before .before .before .before .before .before .before .before in
+    let k = safe turn in
+    omega (arith, bit-bound _ _ _ (c .late-of .ensures), k .index, k .room, turn .before .loop .inv .order)
 
 add-i : tie.Need-add-i Inv-loop μ-loop
 add-i c = omega (arith, c .before .before .before .before .before .before .before .before .before .before .loop-test .taken)
@@ -66,7 +77,9 @@ loop-less c = omega (arith, c .before .before .before .before .before .before .b
 
 loop-again : tie.Need-loop-again Inv-loop μ-loop
 loop-again c =
-    these-more _ _ _ _ _ _ _ _ _ _ _ (c .before .before .before .before .before .before .before .before .before .before .before .loop .inv) (c .before .before .before .before .before .before .before .before .before .before .loop-test .taken) _ _ _ _ (c .before .before .before .before .before .cell-steps .ensures) (c .late-of .ensures)
+    let turn = c .before .before .before .before .before .before .before .before .before .before in
+    let l = c .before .before .before .before .before .cell-steps .ensures in
+    these-more _ _ _ _ _ _ _ _ _ _ _ (turn .before .loop .inv) (turn .loop-test .taken) _ _ _ _ l (c .late-of .ensures)
 
 same-length : tie.Need-same-length Inv-loop μ-loop
 same-length c =

@@ -40,8 +40,10 @@ entry-of-requires : tie.Need-entry-of-requires Inv-loop μ-loop
 entry-of-requires c κs = c .before .before .before .before .before .pre .0 .all _
 
 -- the entry's place is in the table
-inside : (c : tie.In-loop Inv-loop μ-loop) → Placed (c .before .before .before .before .args .width) (c .before .before .before .before .args .height) (c .before .loop .column) (c .before .before .before .before .args .row)
-inside c = placed _ _ _ _ (c .before .before .before .before .pre .0 .wide) (c .before .before .before .before .pre .0 .high) (c .loop-test .taken) (c .before .before .before .before .pre .1 .0)
+inside : (c : tie.In-loop Inv-loop μ-loop) → let a = c .before .before .before .before .args in Placed (a .width) (a .height) (c .before .loop .column) (a .row)
+inside c =
+    let p = c .before .before .before .before .pre in
+    placed _ _ _ _ (p .0 .wide) (p .0 .high) (c .loop-test .taken) (p .1 .0)
 
 mul-table : tie.Need-mul-table Inv-loop μ-loop
 mul-table c = omega (arith, inside (c .before .before))
@@ -62,7 +64,9 @@ loop-less : tie.Need-loop-less Inv-loop μ-loop
 loop-less c = search needs
 
 loop-again : tie.Need-loop-again Inv-loop μ-loop
-loop-again c = cells-more _ _ _ _ _ _ _ (c .before .before .before .loop .inv) (c .before .before .loop-test .taken) (c .before .before .before .before .before .before .pre .1 .0) (c .entry-of .ensures)
+loop-again c =
+    let p = c .before .before .before .before .before .before .pre in
+    cells-more _ _ _ _ _ _ _ (c .before .before .before .loop .inv) (c .before .before .loop-test .taken) (p .1 .0) (c .entry-of .ensures)
 
 same-length : tie.Need-same-length Inv-loop μ-loop
 same-length c = c .before .loop .inv .stored .size ∙ sym (c .before .before .before .before .pre .1 .1 .size)

@@ -18,10 +18,14 @@ loop-holds : tie.Need-loop-holds Inv-loop μ-loop
 loop-holds c = rows-none _ _ _ _ (c .before .before .pre .1)
 
 store-row-requires : tie.Need-store-row-requires Inv-loop μ-loop
-store-row-requires c κs = (c .before .before .before .before .before .pre .0, (c .before .loop-test .taken, c .before .before .loop .inv .stored))
+store-row-requires c κs =
+    let p = c .before .before .before .before .before .pre in
+    (p .0, (c .before .loop-test .taken, c .before .before .loop .inv .stored))
 
 add-row : tie.Need-add-row Inv-loop μ-loop
-add-row c = omega (arith, c .before .before .before .before .loop-test .taken, c .before .before .before .before .before .before .before .before .pre .0 .high)
+add-row c =
+    let p = c .before .before .before .before .before .before .before .before .pre in
+    omega (arith, c .before .before .before .before .loop-test .taken, p .0 .high)
 
 loop-less : tie.Need-loop-less Inv-loop μ-loop
 loop-less c = omega (arith, c .before .before .before .before .loop-test .taken)
