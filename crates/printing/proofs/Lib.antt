@@ -1,0 +1,9 @@
+pub mod FewLegs
+pub mod QueryAnswer
+pub mod Spoken
+pub mod WayLine
+pub mod HeadLines
+pub mod Going
+pub mod OneLine
+pub mod Unique
+pub mod Apart

@@ -1,0 +1,5 @@
+pub mod Query
+pub mod Prints
+pub mod Lines
+pub mod Shown
+pub mod Inner
