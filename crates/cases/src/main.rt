@@ -43,6 +43,55 @@ fn floors() {
     say_number(b"width 120, a map of 16 bytes: ", accepted(120, 1, &wide));
 }
 
+// What a call for a route gives back, as a line.
+fn say_answer(label: &[u8], answer: route::Answer) {
+    io::write_all(1, label);
+    match answer {
+        route::Answer::Way(way) => {
+            io::write_all(1, b"0, length ");
+            io::print_decimal(1, way.length.straight as u64);
+            io::write_all(1, b" ");
+            io::print_decimal(1, way.length.diagonal as u64);
+            say_number(b", legs ", way.legs);
+        }
+        route::Answer::Refused(refusal) => {
+            io::print_decimal(1, refusal.number as u64);
+            say_number(b" with ", refusal.place);
+        }
+    }
+}
+
+// The bytes of a leg buffer, as a line.
+fn say_bytes(label: &[u8], bytes: &[u8]) {
+    io::write_all(1, label);
+    let mut i: usize = 0;
+    while i < bytes.len() {
+        io::write_all(1, b" ");
+        io::print_decimal(1, wide(bytes[i]));
+        i += 1;
+    }
+    io::write_all(1, b"\n");
+}
+
+fn wide(byte: u8) -> u64 {
+    byte as u64
+}
+
+// The route of the 8 by 4 floor, all open, from (0, 3) to (7, 0), over a lent leg buffer.
+fn eight_by_four(label: &[u8], legs: &mut [u8]) {
+    let map = [0u8; 4];
+    let mut table = [0u32; 32];
+    say_answer(
+        label,
+        route::find_route(8, 4, &map, 0, 3, 7, 0, &mut table, legs),
+    );
+    say_bytes(b"the leg buffer:", legs);
+}
+
 fn main() {
     floors();
+    let mut five = [9u8; 5];
+    eight_by_four(b"8 by 4, a 5-byte leg buffer: ", &mut five);
+    let mut three = [9u8; 3];
+    eight_by_four(b"8 by 4, a 3-byte leg buffer: ", &mut three);
 }
