@@ -17,7 +17,7 @@ use Rattle.lengths.specs.Order.{_⊑_, _⊏_, shorter}
 use Rattle.lengths.proofs.Order.{⊏-⊑, shorter-yes, shorter-no}
 use Rattle.lengths.proofs.Keys.{key, order-key}
 use Rattle.lengths.proofs.Tested.{small-parts, parts-small}
-use Rattle.floor.specs.Calls.{Fitting}
+use Rattle.floor.specs.CallTests.{Fitting}
 use Rattle.floor.specs.Floor.{Map, both, blocked, open?, cellOf}
 use Rattle.floor.specs.Inner.{openPast}
 use Rattle.floor.proofs.Joined.{both-true}

@@ -8,7 +8,7 @@ use lib.Dec.{leb, eqb}
 use lib.ListN.{length, getD}
 use Rattle.given.specs.Given.{pick}
 use Rattle.lengths.proofs.Keys.{key}
-use Rattle.floor.specs.Calls.{Fitting}
+use Rattle.floor.specs.CallTests.{Fitting}
 use Rattle.floor.specs.Floor.{Map, cellOf}
 use Rattle.floor.specs.Heading.{changeOf, weight}
 use Rattle.floor.specs.Step.{stepsOf}

@@ -1,10 +1,10 @@
 -- What the neighbours make a cell, computed: the least of the headings' offers.
 -- Assumes nothing.
 use mathlib.Core.Path.{_≡_, refl, ap, sym, subst, _∙_}
-use mathlib.Core.Logic.{_⊎_, inl, inr, _≢_}
+use mathlib.Core.Logic.{_⊎_, inl, inr}
 use mathlib.Core.Bool.{Bool, true, false, not}
 use lib.Dec.{T as Holds}
-use Prim.Native.Nat.{ℕ, zero, suc, _+_, _%_, _≤_, _<_}
+use Prim.Native.Nat.{ℕ, zero, suc, _%_, _<_}
 use native.Mathlib.Omega.{arith}
 use native.Mathlib.Decide.{ℕ-discrete}
 use Rattle.given.specs.Given.{pick}

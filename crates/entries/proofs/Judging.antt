@@ -1,19 +1,18 @@
 -- Every cell is right, by the check, exactly if the table is filled: over any set of permitted steps on n cells, n at most 16,384, and any set of goal cells.
 -- Assumes nothing.
-use mathlib.Core.Path.{_≡_, refl, ap, sym, subst, _∙_}
-use mathlib.Core.Bool.{Bool, true, false}
+use mathlib.Core.Path.{_≡_, ap, sym, subst, _∙_}
+use mathlib.Core.Bool.{false}
 use mathlib.Core.List.{List}
-use Prim.Native.Nat.{ℕ, suc, _+_, _*_, _%_, _/_, _≤_, _<_}
+use Prim.Native.Nat.{ℕ, suc, _≤_, _<_}
 use native.Mathlib.Omega.{arith}
 use native.Mathlib.Decide.{decLe}
 use lib.ListN.{getD, length, List·getD-eq-default}
 use Rattle.lengths.specs.declared.Length.{Length}
-use Rattle.lengths.specs.Order.{zeroLength, _⊕_, steps}
 use Rattle.lengths.specs.Inner.{Within}
-use Rattle.floor.specs.Way.{Graph, Way, stay, step, Reach, Shortest}
+use Rattle.floor.specs.Way.{Graph, Way, stay, step, Reach}
 use Rattle.floor.proofs.Bound.{bound}
 use Rattle.entries.specs.Entry.{Entry, mark, long, pack, read, malformed, entryAt}
-use Rattle.entries.specs.Filled.{Says, FilledAt, Filled}
+use Rattle.entries.specs.Filled.{Says, Filled}
 use Rattle.entries.specs.Made.{Least, Made, Right}
 use Rattle.entries.proofs.Neighbours.{long-inj, sound, complete}
 use Rattle.entries.proofs.Packing.{read-mark, read-long, said-small, pack-read, mark-formed, long-formed, pack-inj}

@@ -3,14 +3,13 @@
 -- the length of a way, by induction on its steps, which fall by exactly one (`found`). The other way: over a step, shortest lengths are a step apart.
 -- Assumes nothing.
 use mathlib.Core.Path.{_≡_, refl, ap, sym, subst, _∙_}
-use mathlib.Core.Logic.{_⊎_, inl, inr}
-use Prim.Native.Nat.{ℕ, zero, suc, _+_, _≤_, _<_}
+use Prim.Native.Nat.{ℕ, zero, suc, _≤_, _<_}
 use native.Mathlib.Omega.{arith}
 use native.Mathlib.Nat.{le-refl}
 use Rattle.lengths.specs.declared.Length.{Length}
 use Rattle.lengths.specs.Order.{zeroLength, _⊕_, steps, _⊑_}
 use Rattle.lengths.proofs.Order.{⊑-refl, ⊑-trans, ⊑-antisym, ⊕-mono, zero-least}
-use Rattle.floor.specs.Way.{Graph, Way, stay, step, Reach, Shortest}
+use Rattle.floor.specs.Way.{Graph, Way, stay, step, Reach}
 use Rattle.entries.specs.Entry.{Entry, mark, long}
 use Rattle.entries.specs.Filled.{Says}
 use Rattle.entries.specs.Made.{Least, Made}

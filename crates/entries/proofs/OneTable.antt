@@ -4,9 +4,9 @@ use mathlib.Core.Path.{_≡_, refl, ap, sym, _∙_}
 use mathlib.Core.List.{List}
 use Prim.Native.Nat.{ℕ, _<_}
 use native.Mathlib.Omega.{arith}
-use lib.ListN.{getD, length}
+use lib.ListN.{getD}
 use lib.Seq.{ext-getD}
-use Rattle.floor.specs.Way.{Graph, Shortest}
+use Rattle.floor.specs.Way.{Graph}
 use Rattle.floor.proofs.Ways.{shortest-unique}
 use Rattle.entries.specs.Entry.{Entry, mark, long, pack}
 use Rattle.entries.specs.Filled.{Says, Filled}

@@ -3,18 +3,18 @@
 use mathlib.Core.Path.{_≡_, refl, ap, sym, subst, _∙_}
 use mathlib.Core.Logic.{_⊎_, inl, inr}
 use mathlib.Core.Bool.{Bool, true, false, not}
-use Prim.Native.Nat.{ℕ, _+_, _*_, _%_, _/_, _≤_, _<_}
+use Prim.Native.Nat.{ℕ, _≤_, _<_}
 use native.Mathlib.Omega.{arith}
-use lib.Dec.{ltb, eqb}
-use borrow.Author.Tests.{ltb-true, ltb-false, lt-ltb, le-ltb, eq-eqb, eqb-true, eqb-false}
-use Rattle.given.specs.Given.{pick, either}
+use lib.Dec.{eqb}
+use borrow.Author.Tests.{eqb-true}
+use Rattle.given.specs.Given.{pick}
 use Rattle.lengths.specs.declared.Length.{Length}
 use Rattle.lengths.specs.Answers.{partAbove}
 use Rattle.lengths.specs.Inner.{Within}
 use Rattle.lengths.proofs.Order.{length-ext}
 use Rattle.lengths.proofs.Tested.{small-parts, parts-small}
 use Rattle.floor.specs.Floor.{both}
-use Rattle.entries.specs.Entry.{Entry, mark, long, pack, partsOf, malformed, read}
+use Rattle.entries.specs.Entry.{mark, long, pack, partsOf, malformed, read}
 use Rattle.entries.proofs.Neighbours.{no-mark, long-inj}
 
 -- the parts of a packed length are the length's

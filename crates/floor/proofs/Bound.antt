@@ -1,10 +1,9 @@
 -- A shortest way over n cells has at most n − 1 steps.
 -- Assumes nothing.
-use mathlib.Core.Path.{_≡_, refl, ap, sym, subst₂, _∙_}
+use mathlib.Core.Path.{_≡_, ap, sym, subst₂, _∙_}
 use mathlib.Core.Logic.{_⊎_, inl, inr}
-use Prim.Native.Nat.{ℕ, zero, suc, _+_, _≤_, _<_}
+use Prim.Native.Nat.{ℕ, suc, _≤_, _<_}
 use native.Mathlib.Omega.{arith}
-use native.Mathlib.Nat.{le-refl}
 use native.Mathlib.Decide.{ℕ-discrete}
 use Rattle.lengths.specs.declared.Length.{Length}
 use Rattle.lengths.specs.Order.{zeroLength, _⊕_, steps}

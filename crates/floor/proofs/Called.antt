@@ -1,30 +1,29 @@
 -- What each way out of the tests of a call shows.
 -- Assumes nothing.
-use mathlib.Core.Path.{_≡_, refl, sym, _∙_, ap, subst, subst₂}
-use mathlib.Core.Bool.{Bool, true, false}
+use mathlib.Core.Path.{_≡_, sym, _∙_, ap, subst, subst₂}
+use mathlib.Core.Bool.{true, false}
 use mathlib.Core.List.{List, [], _∷_}
 use Prim.Native.Nat.{ℕ, _*_, _+_, _/_, _%_, _<_}
 use native.Mathlib.Omega.{arith}
 use lib.Arith.{digits-lt}
 use borrow.Author.Tests.{lt-ltb, eqb-true, not-false}
-use Rattle.given.specs.Given.{pick, firstOf}
 use Rattle.given.proofs.Picked.{pick-else}
 use Rattle.floor.specs.declared.Accepted.{Accepted}
 use Rattle.floor.specs.declared.Accepted.the-variants as accepted
 use Rattle.floor.specs.declared.Ends.{Ends}
 use Rattle.floor.specs.declared.Place.the-variants as place
-use Rattle.floor.specs.declared.Test.{Test}
 use Rattle.floor.specs.declared.Test.the-variants as test
 use Rattle.floor.specs.declared.ToGoal.{ToGoal}
 use Rattle.floor.specs.declared.ToEnds.{ToEnds}
-use Rattle.floor.specs.Floor.{Map, Open, open?, blocked, both, cells}
+use Rattle.floor.specs.Floor.{Map, Open, open?, blocked, cells}
 use Rattle.floor.specs.Refusals.{Spot, offFloor, wrongTable, floorRefused}
 use Rattle.floor.specs.Answers.{acceptedGives, Accepts}
 use Rattle.floor.specs.Inner.{Sound, Ready, placeOf}
-use Rattle.floor.specs.Calls.{spotOf, spotCell, asks, tableRefused, routeRefused, Standing, Fitting, Refuses, ReadyGoal, TestsGoal, ReadyEnds, TestsEnds, goalRefusal, endsRefusal}
+use Rattle.floor.specs.Calls.{spotOf, asks, tableRefused, routeRefused}
+use Rattle.floor.specs.CallTests.{Standing, Fitting, Refuses, ReadyGoal, TestsGoal, ReadyEnds, TestsEnds, goalRefusal, endsRefusal}
 use Rattle.floor.proofs.Grid.{cell, cell-column, cell-row}
 use Rattle.floor.proofs.Leads.{floor}
-use Rattle.floor.proofs.Tested.{accepted, floor-first, floor-passed, refusal-given, Placed, place-on}
+use Rattle.floor.proofs.Tested.{accepted, floor-first, floor-passed, refusal-given, place-on}
 
 -- a cell on the floor that is not blocked is open
 pub opened : (m : Map) (c r : ℕ) → c < m .width → r < m .height → blocked m c r ≡ false → Open m c r

@@ -1,12 +1,9 @@
 -- The floor's steps, one statement for all headings: the two ends, and the two cells that share a side with both, are open.
 -- Assumes nothing.
 use mathlib.Core.Path.{_≡_, refl, ap, ap₂, sym, subst, _∙_}
-use mathlib.Core.Logic.{_⊎_, inl, inr}
-use mathlib.Core.List.{List, [], _∷_}
-use Prim.Native.Nat.{ℕ, zero, suc, _+_, _-_, _*_, _%_, _/_, min, _≤_, _<_}
+use Prim.Native.Nat.{ℕ, zero, suc, _+_, _*_, _%_, _/_, _≤_, _<_}
 use native.Mathlib.Omega.{arith}
 use native.Mathlib.Nat.{div-add-mod', mod-eq-of-lt, div-eq-of-lt, mul-le-mul-right, add-zero, mul-add-mod-self-right, mul-add-div-right}
-use lib.ListN.{getD}
 use Rattle.lengths.specs.declared.Length.{Length}
 use Rattle.lengths.specs.Order.{_⊕_, _⊑_}
 use Rattle.floor.specs.Heading.{changes, changeOf, weight, byParity, straightStep, diagonalStep}

@@ -1,15 +1,14 @@
 -- Between two cells of a rectangle of open cells the room formula is a way's length, so it is the shortest.
 -- Assumes nothing.
-use mathlib.Core.Path.{_≡_, refl, ap, ap₂, sym, subst, subst₂, _∙_}
-use mathlib.Core.Logic.{_⊎_, inl, inr, _≢_}
-use Prim.Native.Nat.{ℕ, zero, suc, _+_, _-_, _*_, _%_, _/_, min, max, _≤_, _<_}
+use mathlib.Core.Path.{_≡_, refl, ap, sym, subst, subst₂, _∙_}
+use mathlib.Core.Logic.{_⊎_, inl, inr}
+use Prim.Native.Nat.{ℕ, zero, suc, _+_, _-_, min, max, _≤_, _<_}
 use native.Mathlib.Omega.{arith}
 use native.Mathlib.Decide.{decLe, ℕ-discrete}
-use lib.ListN.{getD}
 use Rattle.lengths.specs.declared.Length.{Length}
 use Rattle.lengths.specs.Order.{_⊕_, _⊑_}
 use Rattle.floor.specs.Heading.{changes, changeOf, weight, straightStep, diagonalStep}
-use Rattle.floor.specs.Way.{Graph, Way, stay, step, Shortest, Only}
+use Rattle.floor.specs.Way.{Way, stay, step, Shortest, Only}
 use Rattle.floor.specs.Step.{Moved}
 use Rattle.floor.specs.Room.{distance, roomLength}
 use Rattle.floor.proofs.Ways.{way-to}

@@ -1,14 +1,10 @@
 -- A floor of bytes: where each heading leads, computed, and that it is the floor's steps.
 -- Assumes nothing.
 use mathlib.Core.Path.{_≡_, refl, ap, ap₂, sym, subst, subst₂, _∙_}
-use mathlib.Core.Logic.{_⊎_, inl, inr, _≢_}
-use mathlib.Core.Bool.{Bool, true, false, not}
-use mathlib.Core.List.{List, [], _∷_}
-use Prim.Native.Nat.{ℕ, zero, suc, _+_, _-_, _*_, _%_, _/_, _^_, _≤_, _<_}
+use mathlib.Core.Bool.{Bool, true, false}
+use Prim.Native.Nat.{ℕ, _+_, _-_, _*_, _%_, _/_, _<_}
 use native.Mathlib.Omega.{arith}
-use native.Mathlib.Decide.{decLe, ℕ-discrete}
 use native.Mathlib.Nat.{div-add-mod'}
-use lib.ListN.{getD, length}
 use lib.Dec.{T as Holds, ltb, ltb→lt, lt→ltb}
 use Rattle.given.specs.Given.{pick}
 use Rattle.floor.specs.declared.Lead.the-variants.{To, Nowhere}

@@ -1,7 +1,6 @@
 -- The general laws at an accepted floor: steps can be walked back, a heading leads to one cell, and each part of a shortest length is at most 16,383.
 -- Assumes nothing.
-use mathlib.Core.Path.{_≡_}
-use Prim.Native.Nat.{ℕ, _*_, _≤_, _<_}
+use Prim.Native.Nat.{ℕ, _≤_, _<_}
 use native.Mathlib.Nat.{mul-le-mul}
 use native.Mathlib.Omega.{arith}
 use Rattle.lengths.specs.declared.Length.{Length}
@@ -11,7 +10,7 @@ use Rattle.floor.specs.Way.{Shortest, Back}
 use Rattle.floor.specs.Step.{stepsOf}
 use Rattle.floor.specs.Inner.{Sound}
 use Rattle.floor.proofs.Bound.{bound}
-use Rattle.floor.proofs.Grid.{inside, back, one-way}
+use Rattle.floor.proofs.Grid.{inside, back}
 use Rattle.floor.proofs.Leads.{floor}
 
 pub few-cells : (m : Map) → Sound m → cells m ≤ 16384
@@ -22,9 +21,6 @@ walked-back m = back (floor m)
 
 pub on-floor : (m : Map) (h x y : ℕ) → stepsOf m .Step h x y → x < cells m
 on-floor m = inside (floor m)
-
-pub leads-one : (m : Map) (h x y z : ℕ) → stepsOf m .Step h x y → stepsOf m .Step h x z → y ≡ z
-leads-one m = one-way (floor m)
 
 pub small-shortest : (m : Map) → Sound m → (Goal : ℕ → Type 0) → ((x : ℕ) → Goal x → x < cells m) → (x : ℕ) (l : Length) → Shortest (stepsOf m) Goal x l → Within l
 small-shortest m s Goal goal-inside x l short =

@@ -1,7 +1,7 @@
 -- Ways in general, over any set of permitted steps: joined, walked back, and what is left of a shortest way.
 -- Assumes nothing.
-use mathlib.Core.Path.{_≡_, refl, ap, sym, subst, _∙_}
-use Prim.Native.Nat.{ℕ, zero, suc, _+_, _≤_, _<_}
+use mathlib.Core.Path.{_≡_, ap, subst}
+use Prim.Native.Nat.{ℕ}
 use native.Mathlib.Omega.{arith}
 use Rattle.lengths.specs.declared.Length.{Length}
 use Rattle.lengths.specs.Order.{_⊕_}
@@ -20,9 +20,6 @@ reverse {G} {x} {y} b (step {h = h} {y = m} {l = l} s w) =
 
 pub way-to : {G : Graph} {x y : ℕ} {l : Length} → Reach G (Only y) x l → Way G x y l
 way-to {G} {x} {l = l} r = let (g, e, w) = r in subst (λ (z : ℕ). Way G x z l) e w
-
-pub to-way : {G : Graph} {x y : ℕ} {l : Length} → Way G x y l → Reach G (Only y) x l
-to-way {y = y} w = (y, refl, w)
 
 -- there is only one shortest length
 pub shortest-unique : {G : Graph} {Goal : ℕ → Type 0} {x : ℕ} {l m : Length} → Shortest G Goal x l → Shortest G Goal x m → l ≡ m

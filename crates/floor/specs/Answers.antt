@@ -1,17 +1,16 @@
 -- What accepting a floor and asking for a room give back, by the numbers of document 01.
 -- Assumes nothing.
 use mathlib.Core.Path.{_≡_}
-use mathlib.Core.List.{List, [], _∷_}
+use mathlib.Core.List.{[], _∷_}
 use Prim.Native.Nat.{ℕ}
 use Rattle.given.specs.Given.{Given, refusal, done, firstOf, Answered}
-use Rattle.floor.specs.declared.Sides.{Sides}
 use Rattle.floor.specs.declared.Accepted.{Accepted}
 use Rattle.floor.specs.declared.Accepted.the-variants as accepted
 use Rattle.floor.specs.declared.Room.{Room}
 use Rattle.floor.specs.declared.Roomed.{Roomed}
 use Rattle.floor.specs.declared.Roomed.the-variants as roomed
 use Rattle.floor.specs.Floor.{Map}
-use Rattle.floor.specs.Refusals.{Asked, Spot, holds, floorRefused}
+use Rattle.floor.specs.Refusals.{Spot, holds, floorRefused}
 use Rattle.floor.specs.Room.{roomOf}
 
 -- an accepted floor is given back as its sides

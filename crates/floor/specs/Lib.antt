@@ -7,3 +7,4 @@ pub mod Room
 pub mod Answers
 pub mod Inner
 pub mod Calls
+pub mod CallTests

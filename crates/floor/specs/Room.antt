@@ -1,7 +1,7 @@
 -- Document 01, "Rooms": from the cell go north and south while cells are open, then widen this column run west and east while the whole
 -- next column of that height is open. The answer is left, top, right, bottom.
 -- Assumes nothing.
-use mathlib.Core.Bool.{Bool, true, false}
+use mathlib.Core.Bool.{Bool, true}
 use Prim.Native.Nat.{ℕ, zero, suc, _+_, _-_, min}
 use Rattle.given.specs.Given.{pick}
 use Rattle.lengths.specs.declared.Length.{Length}

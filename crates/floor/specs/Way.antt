@@ -1,7 +1,7 @@
 -- Document 01, "Floor" and "Table": ways over any set of permitted steps, and the shortest length to any set of goal cells.
 -- Assumes nothing.
 use mathlib.Core.Path.{_≡_}
-use Prim.Native.Nat.{ℕ, _<_}
+use Prim.Native.Nat.{ℕ}
 use Rattle.lengths.specs.declared.Length.{Length}
 use Rattle.lengths.specs.Order.{zeroLength, _⊕_, steps, _⊑_}
 

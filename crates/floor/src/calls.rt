@@ -1,7 +1,8 @@
 // The tests of calls that take a table: to a goal, and from a start to a goal.
 ghost use mathlib.Core.Path.{_≡_};
 ghost use Rattle.floor.specs.Floor.{mapOf};
-ghost use Rattle.floor.specs.Calls.{spotOf, goalRefusal, endsRefusal, TestsGoal, TestsEnds};
+ghost use Rattle.floor.specs.Calls.{spotOf};
+ghost use Rattle.floor.specs.CallTests.{goalRefusal, endsRefusal, TestsGoal, TestsEnds};
 use crate::Accepted;
 use crate::Ends;
 use crate::Place;

@@ -1,6 +1,6 @@
 // The growth of a room: north and south along the column, then west and east by whole columns.
 ghost use mathlib.Core.Path.{_≡_};
-ghost use Prim.Native.Nat.{_≤_, _<_};
+ghost use Prim.Native.Nat.{_<_};
 ghost use Rattle.floor.specs.Floor.{mapOf};
 ghost use Rattle.floor.specs.Inner.{Sound};
 ghost use Rattle.floor.specs.Room.{topOf, bottomOf, columnOpen, leftOf, rightOf};

@@ -1,10 +1,8 @@
 // The tests of a floor, of a place and of a cell, and reading one cell of the map.
 ghost use mathlib.Core.Path.{_≡_};
-ghost use mathlib.Core.Bool.{not};
-ghost use Prim.Native.Nat.{_+_, _*_, _/_, _^_, _≤_, _<_};
+ghost use Prim.Native.Nat.{_+_, _*_, _/_, _^_, _<_};
 ghost use lib.Dec.{eqb};
-ghost use lib.ListN.{length};
-ghost use Rattle.floor.specs.Floor.{mapOf, bytesPerRow, blocked, open?};
+ghost use Rattle.floor.specs.Floor.{mapOf, blocked, open?};
 ghost use Rattle.floor.specs.Refusals.{sidesOutside, wrongLength, pastWidth, wrongTable};
 ghost use Rattle.floor.specs.Inner.{testOf, placeOf, Sound, Sided};
 use crate::Place;

@@ -1,6 +1,6 @@
 -- What the exported fill and check hand on: the answer of the Rattle function keeps its promise, and the struct made of it tells that answer.
 -- Assumes nothing.
-use mathlib.Core.Path.{_≡_, refl, sym}
+use mathlib.Core.Path.{_≡_, refl}
 use mathlib.Core.List.{List, [], _∷_}
 use Prim.Native.Nat.{ℕ, _<_}
 use native.Mathlib.Omega.{arith}

@@ -1,12 +1,12 @@
 -- How a struct's fields are shown to tell what a call gives back, for an answer, a bare refusal, and a refusal with its place.
 -- Assumes nothing.
-use mathlib.Core.Path.{_≡_, refl, sym, ap, subst}
+use mathlib.Core.Path.{_≡_, refl, sym, subst}
 use mathlib.Core.Bool.{Bool, true, false}
-use mathlib.Core.List.{List, [], _∷_, _++_}
+use mathlib.Core.List.{List, [], _++_}
 use Prim.Native.Nat.{ℕ, zero, suc, _<_}
 use native.Mathlib.Omega.{arith}
 use borrow.Author.Tests.{ne-eqb}
-use Rattle.given.specs.Given.{Given, refusal, pick, Answered}
+use Rattle.given.specs.Given.{Given, refusal, Answered}
 use Rattle.given.proofs.Answering.{same-number}
 use Rattle.headset.specs.Told.{Fields, placed, Zeros, Told}
 

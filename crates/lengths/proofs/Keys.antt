@@ -4,7 +4,6 @@
 -- (p² ≥ 2r² + 1) and yet 13860 p ≤ 19601 r, then r ≥ 13860 and so p ≥ 19601.
 -- Assumes nothing.
 use mathlib.Core.Path.{_≡_, ap, sym, _∙_}
-use mathlib.Core.Logic.{_↔_}
 use Prim.Native.Nat.{ℕ, _+_, _-_, _*_, _/_, _%_, _≤_, _<_}
 use native.Mathlib.Nat.{mul-le-mul, mod-eq-of-lt, mul-add-mod-self-right}
 use native.Mathlib.Decide.{decLe}
@@ -77,10 +76,6 @@ order-key a b small h = by (decLe (key a) (key b))
     by : Dec (key a ≤ key b) → key a ≤ key b
     by (yes g) = g
     by (no g) = omega (arith, ap key (⊑-antisym h (key-order b a small (omega arith))))
-
--- the order of keys is the order of lengths
-pub by-key : (a b : Length) → a .straight < 19601 → b .straight < 19601 → (key a ≤ key b) ↔ (a ⊑ b)
-by-key a b f g = (key-order a b f, order-key a b g)
 
 diagonal-back : (a : Length) → a .diagonal < 13860 → diagonalOf (key a) ≡ a .diagonal
 diagonal-back a h =

@@ -1,8 +1,8 @@
 -- The order of lengths: total, transitive, equal only if the same pair (the root of two is no fraction), kept and cancelled by adding,
 -- and a step is longer. The idea: p + q√2 against 0 is p² against 2q², and such comparisons add (`under-add`, `above-add`) and cancel.
 -- Assumes nothing.
-use mathlib.Core.Path.{_≡_, refl, ap, sym, subst, subst₂, _∙_}
-use mathlib.Core.Logic.{_⊎_, inl, inr, _↔_, _≢_}
+use mathlib.Core.Path.{_≡_, ap, sym, subst, subst₂}
+use mathlib.Core.Logic.{_⊎_, inl, inr, _≢_}
 use Prim.Native.Nat.{ℕ, zero, suc, _+_, _-_, _*_, _≤_, _<_, _/_, _%_}
 use native.Mathlib.Nat.{zero-sub, mul-pos, mul-le-mul, lt-of-not-le, le-refl}
 use native.Mathlib.Decide.{decLe, ℕ-discrete}
@@ -137,14 +137,8 @@ pub ⊏-not : {a b : Length} → a ⊏ b → ¬ (b ⊑ a)
 pub not-⊏ : {a b : Length} → ¬ (b ⊑ a) → a ⊏ b
 not-⊏ h = record { lt = lt-of-not-le (λ g. h (record { le = g })) }
 
-pub ⊏-irrefl : (a : Length) → ¬ (a ⊏ a)
-⊏-irrefl a h = ⊏-not h (⊑-refl a)
-
 pub ⊏-⊑-trans : {a b c : Length} → a ⊏ b → b ⊑ c → a ⊏ c
 ⊏-⊑-trans h k = not-⊏ (λ g. ⊏-not h (⊑-trans k g))
-
-pub ⊑-⊏-trans : {a b c : Length} → a ⊑ b → b ⊏ c → a ⊏ c
-⊑-⊏-trans h k = not-⊏ (λ g. ⊏-not k (⊑-trans g h))
 
 -- the root of two is no fraction: a step of the descent, and the descent
 descend : (m p q : ℕ) → ((u v : ℕ) → u ≤ m → u * u ≡ 2 * (v * v) → u ≡ 0) → p ≤ suc m → p * p ≡ 2 * (q * q) → p ≡ 0

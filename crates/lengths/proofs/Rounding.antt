@@ -1,9 +1,9 @@
 -- The whole number nearest to m√2: there is only one, and a tie never occurs.
 -- Assumes nothing.
-use mathlib.Core.Path.{_≡_, refl, ap, sym, subst, _∙_}
-use mathlib.Core.Logic.{_⊎_, inl, inr, _≢_}
-use Prim.Native.Nat.{ℕ, zero, suc, _+_, _-_, _*_, _≤_, _<_}
-use native.Mathlib.Nat.{mul-le-mul, lt-of-not-le}
+use mathlib.Core.Path.{_≡_, ap}
+use mathlib.Core.Logic.{_≢_}
+use Prim.Native.Nat.{ℕ, suc, _+_, _-_, _*_, _≤_, _<_}
+use native.Mathlib.Nat.{mul-le-mul}
 use native.Mathlib.Decide.{decLe}
 use native.Mathlib.Omega.{arith}
 use Rattle.lengths.specs.declared.Length.{Length}

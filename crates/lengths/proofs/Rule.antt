@@ -1,13 +1,13 @@
 -- The order of lengths is document 01's rule: by the common sign of the differences, or by comparing p² with 2 × q².
 -- Assumes nothing.
-use mathlib.Core.Path.{_≡_, refl}
+use mathlib.Core.Path.{_≡_}
 use mathlib.Core.Logic.{_↔_}
-use Prim.Native.Nat.{ℕ, _+_, _-_, _*_, _≤_, _<_}
+use Prim.Native.Nat.{_-_, _≤_}
 use native.Mathlib.Nat.{lt-of-not-le}
 use native.Mathlib.Decide.{decLe}
 use native.Mathlib.Omega.{arith}
 use Rattle.lengths.specs.declared.Length.{Length}
-use Rattle.lengths.specs.Order.{_⊏_, _⊑_, over, steps, Rule, common, fewer-diagonal, fewer-straight}
+use Rattle.lengths.specs.Order.{_⊏_, over, steps, Rule, common, fewer-diagonal, fewer-straight}
 use Rattle.lengths.proofs.Order.{sq-zero, both-less, not-⊏, ⊏-not, ⊑-antisym}
 
 module _ (a b : Length) where

@@ -9,6 +9,5 @@ pub mod Only
 pub mod Ways
 pub mod Counting
 pub mod Outcomes
-pub mod Learnt
 pub mod Unique
 pub mod Worked

@@ -25,7 +25,6 @@ use Rattle.route.specs.declared.Answer.the-variants as answer
 use Rattle.route.specs.declared.Refusal.{Refusal}
 use Rattle.route.specs.Answers.{answerGives, Routed, Finds}
 use Rattle.route.proofs.Unique.{answer-apart}
-use Rattle.text.specs.Text.{line}
 use Rattle.printing.specs.Query.{startOf, goalOf, queryRefused, QueryNumbers}
 use Rattle.printing.specs.Inner.{WayFits, Fits, wayNumbers, AnswerLine, QueryLine}
 use Rattle.printing.proofs.FewLegs.{few-legs, goal-inside}

@@ -9,7 +9,7 @@ use borrow.Author.Tests.{eqb-true}
 use lib.Dec.{eqb}
 use lib.ListN.{length}
 use denote.Ref.{now}
-use Rattle.given.specs.Given.{Given, refusal, pick, either}
+use Rattle.given.specs.Given.{Given, pick, either}
 use Rattle.lengths.specs.declared.Length.{Length}
 use Rattle.floor.specs.Floor.{Map, cells}
 use Rattle.floor.specs.Refusals.{Spot}

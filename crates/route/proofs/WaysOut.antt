@@ -1,14 +1,13 @@
 -- What each way out of finding a route, and of a route from a table, shows.
 -- Assumes nothing.
 use mathlib.Core.Path.{_≡_, refl, sym, _∙_, ap, subst, subst₂}
-use mathlib.Core.Bool.{Bool, true, false}
 use mathlib.Core.List.{List, [], _∷_}
-use Prim.Native.Nat.{ℕ, zero, suc, _≤_, _<_}
+use Prim.Native.Nat.{ℕ, _<_}
 use native.Mathlib.Decide.{ℕ-discrete}
 use native.Mathlib.Omega.{arith}
 use borrow.Author.Tests.{ne-eqb}
 use lib.ListN.{length}
-use Rattle.given.specs.Given.{Given, refusal, done, pick, Answered}
+use Rattle.given.specs.Given.{Given, refusal, Answered}
 use Rattle.given.proofs.Picked.{pick-else, first-most}
 use Rattle.given.proofs.Answering.{answer-refused, answer-done}
 use Rattle.floor.specs.declared.Ends.{Ends}
@@ -18,7 +17,8 @@ use Rattle.floor.specs.Floor.{Map, cells}
 use Rattle.floor.specs.Refusals.{Spot, holds}
 use Rattle.floor.specs.Way.{Graph, Only}
 use Rattle.floor.specs.Step.{stepsOf}
-use Rattle.floor.specs.Calls.{spotCell, asks, tableRefused, routeRefused, Refuses, ReadyEnds, TestsEnds}
+use Rattle.floor.specs.Calls.{spotCell, asks, tableRefused, routeRefused}
+use Rattle.floor.specs.CallTests.{ReadyEnds, TestsEnds}
 use Rattle.floor.proofs.Called.{standing-inside}
 use Rattle.floor.proofs.OnMap.{few-cells, on-floor}
 use Rattle.entries.specs.Filled.{Filled}
@@ -33,7 +33,7 @@ use Rattle.walking.specs.declared.Reading.{Reading}
 use Rattle.walking.specs.declared.Reading.the-variants as reading
 use Rattle.walking.specs.Read.{Reads}
 use Rattle.route.specs.declared.Answer.{Answer}
-use Rattle.route.specs.Answers.{answerGives, Routed, way, no-way, no-room, Finds, FromTable, differs, right, ReadsTable}
+use Rattle.route.specs.Answers.{answerGives, Routed, way, no-way, no-room, Finds, differs, right, ReadsTable}
 use Rattle.route.specs.Inner.{refusedAt, endsRefused, checkRefused, readAnswer}
 
 -- a refusal below 10 has no place

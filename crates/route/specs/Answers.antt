@@ -1,7 +1,6 @@
 -- What finding a route, and a route from a table, give back, by the numbers of document 01, and what they leave in table and leg buffer.
 -- Assumes nothing.
 use mathlib.Core.Path.{_≡_}
-use mathlib.Core.Bool.{Bool}
 use mathlib.Core.List.{List, [], _∷_}
 use Prim.Native.Nat.{ℕ, _<_}
 use lib.Dec.{eqb}

@@ -1,13 +1,13 @@
 -- No second answer and no second table meet the contract of filling, and no second answer that of checking, each as the checker reads it.
 -- Assumes nothing.
-use mathlib.Core.Path.{_≡_, refl, sym, _∙_, ap, subst}
+use mathlib.Core.Path.{_≡_, refl, sym, _∙_, ap}
 use mathlib.Core.List.{List, [], _∷_}
 use Prim.Native.Nat.{ℕ, zero, suc, _<_}
 use native.Mathlib.Omega.{arith}
 use native.Mathlib.Decide.{decLe}
 use lib.ListN.{length}
 use denote.Ref.{now}
-use Rattle.given.specs.Given.{Given, Answered, refusal, done}
+use Rattle.given.specs.Given.{Given, refusal}
 use Rattle.given.proofs.Answering.{same-number}
 use Rattle.floor.specs.Floor.{Map, cells}
 use Rattle.floor.specs.Refusals.{Spot}

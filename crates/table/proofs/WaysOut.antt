@@ -13,7 +13,8 @@ use Rattle.floor.specs.Refusals.{Spot}
 use Rattle.floor.specs.Way.{Only}
 use Rattle.floor.specs.Step.{stepsOf}
 use Rattle.floor.specs.Inner.{Ready}
-use Rattle.floor.specs.Calls.{spotCell, tableRefused, Refuses, ReadyGoal, TestsGoal}
+use Rattle.floor.specs.Calls.{spotCell, tableRefused}
+use Rattle.floor.specs.CallTests.{Refuses, ReadyGoal, TestsGoal}
 use Rattle.floor.proofs.Called.{ready}
 use Rattle.entries.specs.Filled.{Filled}
 use Rattle.entries.specs.Made.{Right, Judged}

@@ -1,7 +1,7 @@
 -- `lengths::compare` meets its contract: each way out is one of the laws of proofs/WaysOut, by what the tests showed.
 -- Assumes nothing.
-use mathlib.Core.Path.{_≡_, refl, sym, _∙_}
-use mathlib.Core.Bool.{Bool, true, false}
+use mathlib.Core.Path.{sym, _∙_}
+use mathlib.Core.Bool.{true, false}
 use borrow.Author.Needs.{needs}
 use Rattle.lengths.proofs.Tested.{parts-above, parts-within}
 use Rattle.lengths.proofs.WaysOut.{first-above, second-above, compared}

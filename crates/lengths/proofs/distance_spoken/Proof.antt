@@ -1,6 +1,6 @@
 -- `lengths::distance_spoken` meets its contract: what passed its tests is small (`small`), so nothing wraps, and each way out is a law of proofs/WaysOut.
 -- Assumes nothing.
-use mathlib.Core.Path.{_≡_, refl, sym, _∙_}
+use mathlib.Core.Path.{sym, _∙_}
 use Prim.Native.Nat.{_*_, _≤_}
 use native.Mathlib.Nat.{mul-le-mul}
 use native.Mathlib.Omega.{arith}

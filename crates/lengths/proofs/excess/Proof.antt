@@ -1,8 +1,6 @@
 -- `lengths::excess` meets its contract.
 -- Assumes nothing.
-use mathlib.Core.Path.{_∙_, ap}
 use borrow.Author.Needs.{needs}
-use native.Mathlib.Omega.{arith}
 use Rattle.lengths.specs.Order.{over}
 use Rattle.lengths.proofs.excess.Statement.{statement}
 use Rattle.lengths.proofs.excess.Tie as tie

@@ -2,7 +2,6 @@
 -- Assumes nothing.
 use native.Mathlib.Nat.{mul-le-mul}
 use native.Mathlib.Omega.{arith}
-use borrow.Author.Needs.{needs}
 use Rattle.lengths.proofs.square.Statement.{statement}
 use Rattle.lengths.proofs.square.Tie as tie
 

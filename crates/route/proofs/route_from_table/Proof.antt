@@ -10,7 +10,8 @@ use native.Mathlib.Omega.{arith}
 use borrow.Author.Needs.{needs}
 use lib.ListN.{length}
 use Rattle.floor.specs.Floor.{mapOf}
-use Rattle.floor.specs.Calls.{spotOf, ReadyEnds}
+use Rattle.floor.specs.Calls.{spotOf}
+use Rattle.floor.specs.CallTests.{ReadyEnds}
 use Rattle.floor.proofs.Called.{standing-inside}
 use Rattle.route.proofs.WaysOut.{ends-set, read-refused, check-wrong, table-filled, read-done}
 use Rattle.route.proofs.route_from_table.Statement.{statement}

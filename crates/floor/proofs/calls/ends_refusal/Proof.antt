@@ -2,7 +2,7 @@
 -- Assumes nothing.
 use mathlib.Core.Path.{sym, ap}
 use borrow.Author.Needs.{needs}
-use Rattle.floor.specs.Calls.{endsRefusal}
+use Rattle.floor.specs.CallTests.{endsRefusal}
 use Rattle.floor.proofs.calls.ends_refusal.Statement.{statement}
 use Rattle.floor.proofs.calls.ends_refusal.Tie as tie
 

@@ -2,7 +2,7 @@
 -- Assumes nothing.
 use mathlib.Core.Path.{sym, ap}
 use borrow.Author.Needs.{needs}
-use Rattle.floor.specs.Calls.{goalRefusal}
+use Rattle.floor.specs.CallTests.{goalRefusal}
 use Rattle.floor.proofs.calls.goal_refusal.Statement.{statement}
 use Rattle.floor.proofs.calls.goal_refusal.Tie as tie
 

@@ -1,7 +1,7 @@
 -- `floor::growth::west_end` meets its contract. The loop's invariant: all from `left` up to the start pass. The measure is `left`.
 -- Assumes nothing.
 use mathlib.Core.Path.{sym, _∙_}
-use Prim.Native.Nat.{_-_, _≤_}
+use Prim.Native.Nat.{_≤_}
 use native.Mathlib.Omega.{arith}
 use borrow.Author.Needs.{needs}
 use borrow.Author.Tests.{not-true, not-false}
