@@ -15,14 +15,14 @@ ghost use Rattle.text.specs.Put.{Put};
 ghost use Rattle.printing.specs.declared.Head.the-variants as head;
 ghost use Rattle.printing.specs.Lines.{LineAt};
 ghost use Rattle.printing.specs.Shown.{lengthRoom, lineRoom, Shown};
-ghost use Rattle.printing.specs.Inner.{PutLine, Writes, WayFits, Fits, lengthNumbers, wayNumbers, AnswerLine, QueryLine, Heads, Taken, sizeHead, headLine, countOf};
-use floor::Accepted;
+ghost use Rattle.printing.specs.Inner.{PutLine, Writes, WayFits, Fits, lengthNumbers, wayNumbers, AnswerLine, QueryLine, Heads, headLine, countOf};
 use lengths::Distance;
 use plan::Plan;
 use plan::Query;
-use plan::Reading;
 use route::Answer;
 use walking::Way;
+
+mod heads;
 
 // Room for any line: a query's line has 16,383 legs at most.
 const LINE_ROOM: usize = 131190;
@@ -35,7 +35,7 @@ pub struct Printed {
 }
 
 // What the first line says: the place of a break, a refusal's number, or the floor.
-enum Head {
+pub enum Head {
     Broken(usize),
     Refused(usize),
     Floor(Plan),
@@ -171,57 +171,6 @@ fn put_query(
     put_answer(out, at, number, plan.size as u32, answer, legs)
 }
 
-// What the first line says of a sound plan.
-fn head_of_plan(input: &[u8], plan: Plan) -> Head
-    requires { ⌜ Taken (now input) plan ⌝ }
-    ensures { λ r. ⌜ Heads (now (input .entry)) r ⌝ }
-{
-    let start = plan.map_at;
-    let end = plan.map_at + plan.map_len;
-    match floor::accept(plan.width, plan.height, &input[start..end]) {
-        Accepted::Refused(n) => Head::Refused(n as usize),
-        Accepted::Floor(_) => head_of_size(plan),
-    }
-}
-
-// What the first line says of a plan whose floor is accepted.
-fn head_of_size(plan: Plan) -> Head
-    ensures { λ r. ⌜ r ≡ sizeHead plan ⌝ }
-{
-    if plan.size < 1 {
-        return Head::Refused(13);
-    }
-    if 1000 < plan.size {
-        return Head::Refused(13);
-    }
-    Head::Floor(plan)
-}
-
-// What the first line says.
-fn head_of(input: &[u8]) -> Head
-    ensures { λ r. ⌜ Heads (now (input .entry)) r ⌝ }
-{
-    if 4096 < input.len() {
-        return Head::Broken(4096);
-    }
-    match plan::read(input) {
-        Reading::Broken(at) => Head::Broken(at),
-        Reading::Sound(plan) => head_of_plan(input, plan),
-    }
-}
-
-// How many lines there are.
-fn count_of(head: Head) -> usize
-    requires { ⌜ countOf head ≤ 65 ⌝ }
-    ensures { λ r. ⌜ r ≡ countOf head ⌝ }
-{
-    match head {
-        Head::Broken(_) => 1,
-        Head::Refused(_) => 1,
-        Head::Floor(plan) => 1 + plan.queries,
-    }
-}
-
 // Writes the first line.
 fn put_head(out: &mut [u8], at: usize, head: Head) -> usize
     requires { ⌜ at + lineRoom ≤ length (now out) ⌝ }
@@ -308,8 +257,8 @@ fn print_with(
     ensures { λ r. ⌜ Counts (r .length) (now (out .exit)) ⌝ }
     ensures { λ r. ⌜ r .lines ≤ 65 ⌝ }
 {
-    let head = head_of(input);
-    let total = count_of(head);
+    let head = heads::head_of(input);
+    let total = heads::count_of(head);
     let mut at = 0;
     let mut next = from;
     while next < total {

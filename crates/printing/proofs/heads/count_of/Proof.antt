@@ -1,11 +1,11 @@
--- `printing::count_of` meets its contract: each case counts its lines.
+-- `printing::heads::count_of` meets its contract: each case counts its lines.
 -- Assumes nothing.
 use mathlib.Core.Path.{sym, ap}
 use native.Mathlib.Omega.{arith}
 use Rattle.printing.specs.Inner.{countOf}
 use borrow.Author.Needs.{needs}
-use Rattle.printing.proofs.count_of.Statement.{statement}
-use Rattle.printing.proofs.count_of.Tie as tie
+use Rattle.printing.proofs.heads.count_of.Statement.{statement}
+use Rattle.printing.proofs.heads.count_of.Tie as tie
 
 enum-told : tie.Need-enum-told
 enum-told c = search needs

@@ -1,11 +1,11 @@
--- `printing::head_of_plan` meets its contract: the floor's refusal, or what the cell size says.
+-- `printing::heads::head_of_plan` meets its contract: the floor's refusal, or what the cell size says.
 -- Assumes nothing.
 use native.Mathlib.Omega.{arith}
 use Rattle.floor.proofs.Tested.{floor-given, refusal-given}
 use Rattle.printing.proofs.HeadLines.{map-in, map-is, floor-refused, floor-passed}
 use borrow.Author.Needs.{needs}
-use Rattle.printing.proofs.head_of_plan.Statement.{statement}
-use Rattle.printing.proofs.head_of_plan.Tie as tie
+use Rattle.printing.proofs.heads.head_of_plan.Statement.{statement}
+use Rattle.printing.proofs.heads.head_of_plan.Tie as tie
 
 add-end : tie.Need-add-end
 add-end c = omega (arith, map-in _ (c .before .before .pre), c .before .before .pre .small)

@@ -1,10 +1,10 @@
--- `printing::head_of` meets its contract: each way out says what the first line does.
+-- `printing::heads::head_of` meets its contract: each way out says what the first line does.
 -- Assumes nothing.
 use Rattle.printing.specs.Inner.{Heads}
 use Rattle.printing.proofs.HeadLines.{read-sound, read-broken}
 use borrow.Author.Needs.{needs}
-use Rattle.printing.proofs.head_of.Statement.{statement}
-use Rattle.printing.proofs.head_of.Tie as tie
+use Rattle.printing.proofs.heads.head_of.Statement.{statement}
+use Rattle.printing.proofs.heads.head_of.Tie as tie
 
 returns : tie.Need-returns
 returns c = Heads.too-long (c .if1 .taken)

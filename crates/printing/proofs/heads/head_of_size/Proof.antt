@@ -1,10 +1,10 @@
--- `printing::head_of_size` meets its contract: each way out rewrites by the tests that led there.
+-- `printing::heads::head_of_size` meets its contract: each way out rewrites by the tests that led there.
 -- Assumes nothing.
 use borrow.Author.Tests.{lt-ltb, le-ltb}
 use Rattle.lengths.specs.Answers.{sizeOutside}
 use Rattle.printing.specs.Inner.{sizeHead}
-use Rattle.printing.proofs.head_of_size.Statement.{statement}
-use Rattle.printing.proofs.head_of_size.Tie as tie
+use Rattle.printing.proofs.heads.head_of_size.Statement.{statement}
+use Rattle.printing.proofs.heads.head_of_size.Tie as tie
 
 returns : tie.Need-returns
 unfolding sizeHead sizeOutside
