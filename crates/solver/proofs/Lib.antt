@@ -1,0 +1,2 @@
+-- The laws that this crate's proofs share.
+pub mod Products

@@ -1,0 +1,113 @@
+// Lengths as packed numbers, diagonal × 32,768 + straight, their sizes, and the distance spoken.
+//
+// The size of a length is straight + diagonal × √2 in parts of 2^-40, with √2 taken as 1,554,944,255,988 of them, which is less than
+// half a part off. Two different lengths with parts up to 16,384, p and q their differences, are at least 1 / (|p| + |q| × √2) apart,
+// since p² - 2q² is a whole number and not 0: more than 2^-16, where the sizes' error is less than 2^-26. So sizes order lengths exactly.
+use crate::Answer;
+ghost use Prim.Native.Nat.{_≤_, _<_};
+
+// No way: above every packed length.
+pub const NONE: u32 = 1073741824;
+
+// The size of a packed length.
+fn size_of(packed: u32) -> u64 {
+    let straight = (packed % 32768) as u64;
+    let diagonal = (packed / 32768) as u64;
+    straight * 1099511627776 + diagonal * 1554944255988
+}
+
+// Whether the first is shorter.
+pub fn is_shorter(first: u32, second: u32) -> bool {
+    size_of(first) < size_of(second)
+}
+
+// The shorter of two.
+pub fn shorter_of(first: u32, second: u32) -> u32 {
+    if is_shorter(second, first) {
+        return second;
+    }
+    first
+}
+
+// A refusal.
+fn refused(number: u8) -> Answer {
+    Answer { number, value: 0 }
+}
+
+// Comparing two lengths: 0 with 1 if the first is shorter, else with 0; 12.
+pub fn compare(straight: u32, diagonal: u32, other_straight: u32, other_diagonal: u32) -> Answer {
+    if 16383 < straight {
+        return refused(12);
+    }
+    if 16383 < diagonal {
+        return refused(12);
+    }
+    if 16383 < other_straight {
+        return refused(12);
+    }
+    if 16383 < other_diagonal {
+        return refused(12);
+    }
+    let first = diagonal * 32768 + straight;
+    let second = other_diagonal * 32768 + other_straight;
+    Answer {
+        number: 0,
+        value: is_shorter(first, second) as usize,
+    }
+}
+
+// The whole root of a number below 2^52, rounded down, by its binary digits.
+fn root_of(square: u64) -> u64
+    ensures { λ r. ⌜ r ≤ 4503599627370496 ⌝ }
+{
+    let mut rest = square;
+    let mut root: u64 = 0;
+    let mut digit: u64 = 1125899906842624;
+    while 0 < digit {
+        let next = root + digit;
+        root /= 2;
+        if next <= rest {
+            rest -= next;
+            root += digit;
+        }
+        digit /= 4;
+    }
+    root
+}
+
+// So many steps of the cell size.
+fn times(size: u32, steps: u32) -> u64
+    requires { ⌜ (size ≤ 1000) × (steps ≤ 16383) ⌝ }
+    ensures { λ r. ⌜ r ≤ 16383000 ⌝ }
+{
+    size as u64 * steps as u64
+}
+
+// The whole number nearest to m√2: the root of 8m² is 2m√2 rounded down, and half of the next number, rounded down, is the nearest.
+fn nearest(m: u64) -> u64
+    requires { ⌜ m ≤ 16383000 ⌝ }
+    ensures { λ r. ⌜ r ≤ 4503599627370496 ⌝ }
+{
+    (root_of(8 * (m * m)) + 1) / 2
+}
+
+// The distance spoken: 0 with the centimetres; 12, 13.
+pub fn distance(size: u32, straight: u32, diagonal: u32) -> Answer {
+    if 16383 < straight {
+        return refused(12);
+    }
+    if 16383 < diagonal {
+        return refused(12);
+    }
+    if size < 1 {
+        return refused(13);
+    }
+    if 1000 < size {
+        return refused(13);
+    }
+    let centimetres = times(size, straight) + nearest(times(size, diagonal));
+    Answer {
+        number: 0,
+        value: centimetres as usize,
+    }
+}
