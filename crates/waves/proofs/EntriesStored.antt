@@ -10,8 +10,8 @@ use lib.ListN.{length, set, length-set}
 use Rattle.lengths.specs.declared.Length.{Length}
 use Rattle.lengths.proofs.Keys.{straightKey, diagonalKey, key, straightOf, diagonalOf, pair-back}
 use Rattle.entries.specs.Entry.{mark, pack}
-use Rattle.waves.specs.Work.{unreached, at, spot}
-use Rattle.waves.specs.Store.{entryOf, Readable, Stored}
+use Rattle.waves.specs.Work.{unreached, span, at, spot}
+use Rattle.waves.specs.Store.{keyOf, entryOf, Keyed, Readable, Stored}
 use Rattle.waves.proofs.Changed.{each}
 use Rattle.waves.proofs.Shortest.{Kind, shut, waits, reached, kind}
 use Rattle.waves.proofs.Kept.{CellsStored, RowsStored}
@@ -32,30 +32,88 @@ packed-waits v e = by (kind v)
     by (waits d p) = ap pack (sym p)
     by (reached o f p) = absurd (omega arith)
 
-pub packed-length : (v : ℕ) → v ≢ 0 → v < unreached → straightOf (v - straightKey) * 65536 + diagonalOf (v - straightKey) ≡ pack (entryOf v)
+pub packed-length : (v : ℕ) → v ≢ 0 → v < unreached
+    → straightOf (keyOf v - straightKey) * 65536 + diagonalOf (keyOf v - straightKey) ≡ pack (entryOf v)
 packed-length v e f = by (kind v)
   where
-    by : Kind v → straightOf (v - straightKey) * 65536 + diagonalOf (v - straightKey) ≡ pack (entryOf v)
+    by : Kind v → straightOf (keyOf v - straightKey) * 65536 + diagonalOf (keyOf v - straightKey) ≡ pack (entryOf v)
     by (shut d p) = absurd (e d)
     by (waits d p) = absurd (omega arith)
     by (reached o g p) = ap pack (sym p)
 
--- the parts can be taken apart without a difference below 0, and packed
-pub record Parts (v : ℕ) : Type 0 where
-  pub base : straightKey ≤ v
-  pub rest : diagonalKey * diagonalOf (v - straightKey) ≤ v - straightKey
-  pub few : straightOf (v - straightKey) < 17000
+-- how the code divides 5741 times a remainder by 13860: nearly by a product, and m is how often 13860 goes into what is left
+abbrev near : ℕ → ℕ
+near r = r * 27145 / 65536
 
-pub parts : (v : ℕ) → Readable v → v ≢ 0 → v < unreached → Parts v
-parts v r e f =
-    let k = r .keyed (omega arith) f in
-    let b = r .below f in
-    let l = k .length in
-    let sum = k .sum in
-    let same : v - straightKey ≡ key l = omega arith in
-    let d : diagonalOf (v - straightKey) ≡ l .diagonal = ap diagonalOf same ∙ ap (λ (z : Length). z .diagonal) (pair-back l (omega arith)) in
-    let s : straightOf (v - straightKey) ≡ l .straight = ap straightOf same ∙ ap (λ (z : Length). z .straight) (pair-back l (omega arith)) in
-    record { base = omega arith; rest = omega arith; few = omega arith }
+abbrev left : ℕ → ℕ
+left r = r * 5741 - near r * straightKey
+
+record Divided (r m : ℕ) : Type 0 where
+  less : left r - m * straightKey < straightKey
+  sum : r * 5741 ≡ (near r + m) * straightKey + (left r - m * straightKey)
+
+divided : (r m : ℕ) → r < span → m ≡ left r / straightKey → Divided r m
+divided r m b e = record { less = omega arith; sum = omega arith }
+
+-- so what remains is the diagonal part of a key with this remainder, since 5741 · 19601 = 13860 · 8119 + 1
+remains : (n r t d : ℕ) → r < straightKey → d < straightKey → r * 5741 ≡ t * straightKey + d → diagonalOf (straightKey * n + r) ≡ d
+remains n r t d b less sum =
+    let rest : (straightKey * n + r) % straightKey ≡ r = omega arith in
+    let again : r * diagonalKey ≡ (t + r) * straightKey + d = omega arith in
+    ap (λ (z : ℕ). z * diagonalKey % straightKey) rest ∙ ap (λ (z : ℕ). z % straightKey) again
+    ∙ mul-add-mod-self-right (t + r) straightKey d ∙ mod-eq-of-lt less
+
+-- and the straight part is what the diagonal steps leave
+balance : (n r t d s : ℕ) → straightKey * n + r ≡ straightKey * s + diagonalKey * d → r * 5741 ≡ t * straightKey + d
+    → n + diagonalKey * t ≡ s + 8119 * r
+balance n r t d s e f = omega arith
+
+-- the parts of the key that a number stands for, as the code finds them; they can be packed
+pub record Parts (v m : ℕ) : Type 0 where
+  pub wave : 0 < v / span
+  pub diagonal : left (v % span) - m * straightKey ≡ diagonalOf (keyOf v - straightKey)
+  pub straight : v / span - 1 + diagonalKey * (near (v % span) + m) ≡ straightOf (keyOf v - straightKey) + 8119 * (v % span)
+  pub few : straightOf (keyOf v - straightKey) < 17000
+
+pub parts : (v m : ℕ) → Readable v → v ≢ 0 → v < unreached → m ≡ left (v % span) / straightKey → Parts v m
+parts v m r e f is = record {
+  wave = bounds .0;
+  diagonal = sym here;
+  straight = even ∙ ap (λ (z : ℕ). z + 8119 * (v % span)) (sym there-straight);
+  few = subst (λ (z : ℕ). z < 17000) (sym there-straight) (bounds .2);
+}
+  where
+    k : Keyed v
+    k = r .keyed (omega arith) f
+
+    l : Length
+    l = k .length
+
+    d : Divided (v % span) m
+    d = divided (v % span) m (omega arith) is
+
+    bounds : (0 < v / span) × (l .diagonal < straightKey) × (l .straight < 17000)
+    bounds = omega (arith, k .sum, k .rest, r .below f)
+
+    same : keyOf v - straightKey ≡ key l
+    same = omega (arith, k .sum)
+
+    parted : keyOf v - straightKey ≡ straightKey * (v / span - 1) + v % span
+    parted = omega (arith, bounds .0)
+
+    here : diagonalOf (keyOf v - straightKey) ≡ left (v % span) - m * straightKey
+    here = ap diagonalOf parted ∙ remains (v / span - 1) (v % span) (near (v % span) + m) _ (k .rest) (d .less) (d .sum)
+
+    there : diagonalOf (keyOf v - straightKey) ≡ l .diagonal
+    there = ap diagonalOf same ∙ ap (λ (z : Length). z .diagonal) (pair-back l (bounds .1))
+
+    there-straight : straightOf (keyOf v - straightKey) ≡ l .straight
+    there-straight = ap straightOf same ∙ ap (λ (z : Length). z .straight) (pair-back l (bounds .1))
+
+    even : v / span - 1 + diagonalKey * (near (v % span) + m) ≡ l .straight + 8119 * (v % span)
+    even =
+        balance (v / span - 1) (v % span) (near (v % span) + m) (left (v % span) - m * straightKey) (l .straight)
+        (sym parted ∙ same ∙ ap (λ (z : ℕ). straightKey * l .straight + diagonalKey * z) (sym there ∙ here)) (d .sum)
 
 module _ (w h : ℕ) (x : List ℕ) where
   stored-more : (c r v : ℕ) (t : List ℕ) → c < w → r < h → Stored w h x (r * w + c) t → v ≡ pack (entryOf (at x (spot c r)))

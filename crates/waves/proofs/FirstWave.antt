@@ -8,10 +8,10 @@ use native.Mathlib.Omega.{arith}
 use native.Mathlib.Decide.{ℕ-discrete}
 use lib.ListN.{getD, length, set, length-set}
 use lib.Seq.{getD-set-same}
-use Rattle.lengths.proofs.Keys.{straightKey}
-use Rattle.waves.specs.Work.{unreached, at, Room}
+use Rattle.waves.specs.Work.{unreached, span, at, Room}
 use Rattle.waves.specs.Taken.{This}
 use Rattle.waves.specs.Solved.{Loaded}
+use Rattle.waves.proofs.Numbers.{stretch}
 use Rattle.waves.proofs.Kept.{Between}
 use Rattle.waves.proofs.Changed.{each, waiting-set, waiting-le}
 
@@ -31,7 +31,7 @@ module _ (x q : List ℕ) (goal : ℕ) (l : Loaded x q goal) where
       by (inr (inl e)) = absurd (omega arith)
       by (inr (inr e)) = absurd (omega arith)
 
-  value : (z : ℕ) → 0 < at x z → at x z < unreached → at x z ≡ straightKey
+  value : (z : ℕ) → 0 < at x z → at x z < unreached → at x z ≡ span
   value z o f = ap (at x) (only z o f) ∙ l .start
 
   kind : (z : ℕ) → at x z ≤ unreached
@@ -57,14 +57,15 @@ module _ (x q : List ℕ) (goal : ℕ) (l : Loaded x q goal) where
         );
   }
 
-  pub begin : Between x goal 0 0 0 1 (2 * straightKey) x (set q 0 goal)
+  pub begin : Between x goal 0 0 0 1 (2 * span) x (set q 0 goal)
   begin = record {
     count = omega arith;
+    whole = refl;
     order = (omega arith, omega arith, omega arith);
     settled = λ z r. omega (arith, value z (r .free) (r .found));
     lates = λ i m n. absurd (omega arith);
     these = λ i m n. let e : i ≡ 0 = omega arith in
-        subst (This x (2 * straightKey)) (sym (ap (λ (j : ℕ). getD (set q 0 goal) j 0) e ∙ getD-set-same q 0 goal 0 in-q))
+        subst (This x (2 * span)) (sym (ap (λ (j : ℕ). getD (set q 0 goal) j 0) e ∙ getD-set-same q 0 goal 0 in-q))
         (record { free = omega (arith, l .start); after = omega (arith, l .start); near = omega (arith, l .start) });
     in-late = λ z k. absurd (omega (arith, value z (k .free) (omega (arith, k .near)), k .near));
     in-these = λ z k. record {
@@ -84,12 +85,12 @@ module _ (x q : List ℕ) (goal : ℕ) (l : Loaded x q goal) where
       start = l .start;
       below = λ z f. below z f (ℕ-discrete (at x z) 0);
       support = λ z o f. inl (only z o f);
-      relaxed = λ h a b s k. absurd (omega (arith, value a (s .from) (omega arith)));
+      relaxed = λ h a b s k. let l = stretch h (at x a) .least in absurd (omega (arith, value a (s .from) (omega arith)));
       listed = λ z o f. absurd (omega (arith, value z (omega arith) f));
       queued = λ i m n. absurd (omega arith);
     };
   }
     where
-      below : (z : ℕ) → at x z < unreached → Dec (at x z ≡ 0) → at x z < 2 * straightKey + straightKey
+      below : (z : ℕ) → at x z < unreached → Dec (at x z ≡ 0) → at x z < 2 * span + span
       below z f (yes e) = omega arith
       below z f (no e) = omega (arith, value z (omega arith) f)

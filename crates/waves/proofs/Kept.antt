@@ -5,11 +5,10 @@ use mathlib.Core.Logic.{_⊎_}
 use mathlib.Core.List.{List}
 use Prim.Native.Nat.{ℕ, _+_, _*_, _%_, _≤_, _<_}
 use lib.ListN.{getD, length}
-use Rattle.lengths.proofs.Keys.{straightKey}
 use Rattle.floor.specs.Floor.{Map}
-use Rattle.waves.specs.Work.{at, spot}
+use Rattle.waves.specs.Work.{span, at, spot, Room}
 use Rattle.waves.specs.Wave.{Wave, Listed, Reached, Going}
-use Rattle.waves.specs.Taken.{StepsLeft, This, Late}
+use Rattle.waves.specs.Taken.{Offers, Offered, This, Late}
 use Rattle.waves.specs.Passes.{LateReady, LateDone, ThisReady, ThisDone}
 use Rattle.waves.specs.Load.{Prefix}
 use Rattle.waves.specs.Store.{Stored}
@@ -18,7 +17,9 @@ use Rattle.waves.specs.Store.{Stored}
 pub record Headings (first p cand t : ℕ) (x₀ q₀ : List ℕ) (h : ℕ) (x q : List ℕ) (t′ : ℕ) : Type 0 where
   pub inside : h ≤ 9
   pub parity : h % 2 ≡ first
-  pub left : StepsLeft (λ j. (j % 2 ≡ first) × (j < h)) p first cand t x₀ q₀ x q t′
+  pub size : length x ≡ length x₀
+  pub room : Room x q t′
+  pub keeps : (w : Wave) → Offers w x₀ q₀ t p first cand → Offered w (λ j. (j % 2 ≡ first) × (j < h)) p cand x₀ q₀ x q t′
 
 -- the late cells before i have taken their diagonal steps
 pub record Lates (t₀ prev last : ℕ) (x₀ q₀ : List ℕ) (i : ℕ) (x q : List ℕ) (t : ℕ) : Type 0 where
@@ -26,9 +27,9 @@ pub record Lates (t₀ prev last : ℕ) (x₀ q₀ : List ℕ) (i : ℕ) (x q : 
   pub keeps : (w : Wave) → LateReady w x₀ q₀ t₀ prev last → LateDone w prev i x₀ q₀ x q t
 
 -- this wave's cells before i have taken their steps, and the late ones among them stand before last
-pub record These (t₀ mid end limit : ℕ) (x₀ q₀ : List ℕ) (i last : ℕ) (x q : List ℕ) (t : ℕ) : Type 0 where
+pub record These (t₀ mid end : ℕ) (x₀ q₀ : List ℕ) (i last : ℕ) (x q : List ℕ) (t : ℕ) : Type 0 where
   pub order : (mid ≤ last) × (last ≤ i) × (i ≤ end)
-  pub keeps : (w : Wave) → ThisReady w x₀ q₀ t₀ mid end limit → ThisDone w mid i last x₀ q₀ x q t
+  pub keeps : (w : Wave) → ThisReady w x₀ q₀ t₀ mid end → ThisDone w mid i last x₀ q₀ x q t
 
 -- a wave of this floor and goal
 abbrev pub the : List ℕ → (goal end limit : ℕ) → Wave
@@ -46,8 +47,15 @@ pub record Between (floor : List ℕ) (goal prev last mid tail limit : ℕ) (x q
   -- q[mid..tail] are this wave's cells, and they alone
   pub these : (i : ℕ) → mid ≤ i → i < tail → This x limit (getD q i 0)
   pub in-these : (z : ℕ) → This x limit z → Listed q mid tail z
+  -- waves begin and end at whole spans
+  pub whole : limit % span ≡ 0
   -- no wave was empty
-  pub count : limit ≤ straightKey * (mid + 2)
+  pub count : limit ≤ span * (mid + 2)
+
+-- between waves, whatever number the wave ends at
+pub record Waves (floor : List ℕ) (goal prev last mid tail : ℕ) (x q : List ℕ) : Type 0 where
+  pub limit : ℕ
+  pub between : Between floor goal prev last mid tail limit x q
 
 -- the cells of row r before column c are loaded, and all before row r
 pub record CellsLoaded (m : Map) (x₀ : List ℕ) (c r : ℕ) (x : List ℕ) : Type 0 where

@@ -7,10 +7,10 @@ use mathlib.Core.List.{List}
 use Prim.Native.Nat.{ℕ, _+_, _%_, _≤_, _<_}
 use native.Mathlib.Omega.{arith}
 use native.Mathlib.Decide.{decLe, ℕ-discrete}
-use Rattle.lengths.proofs.Keys.{straightKey}
-use Rattle.waves.specs.Work.{unreached, stride, highest, at, cost, across, WorkStep}
+use Rattle.waves.specs.Work.{unreached, stride, span, stepped, highest, at, across, WorkStep}
 use Rattle.waves.specs.Wave.{Support}
 use Rattle.waves.specs.Solved.{Found, Solved}
+use Rattle.waves.proofs.Numbers.{straight as one-wave}
 use Rattle.waves.proofs.Kept.{the, Between}
 use Rattle.waves.proofs.OnWork.{also}
 use Rattle.waves.proofs.Turns.{Corner, Shape, level, upright, slanted, shape}
@@ -40,10 +40,10 @@ module _ (floor : List ℕ) (h a b : ℕ) (s : WorkStep floor h a b) (low : stri
 module _ (floor : List ℕ) (goal prev last mid tail limit : ℕ) (x q : List ℕ) (g : Between floor goal prev last mid tail limit x q)
     (empty : tail ≤ mid) where
   -- all that was reached lies below the wave's beginning
-  low : (z : ℕ) → 0 < at x z → at x z < unreached → at x z + straightKey < limit
-  low z o f = by (decLe limit (at x z + straightKey))
+  low : (z : ℕ) → 0 < at x z → at x z < unreached → at x z + span < limit
+  low z o f = by (decLe limit (at x z + span))
     where
-      by : Dec (limit ≤ at x z + straightKey) → at x z + straightKey < limit
+      by : Dec (limit ≤ at x z + span) → at x z + span < limit
       by (yes n) =
           let i = g .in-these z (record { free = o; after = n; near = g .settled z (record { free = o; found = f }) }) in
           absurd (omega (arith, i .after, i .before))
@@ -52,13 +52,15 @@ module _ (floor : List ℕ) (goal prev last mid tail limit : ℕ) (x q : List �
   fits : limit ≤ highest
   fits = omega (arith, g .count, g .going .room, g .order)
 
-  straight : (h a b : ℕ) → WorkStep floor h a b → h % 2 ≡ 0 → at x a < unreached → at x b ≤ at x a + straightKey
-  straight h a b s e f = omega (arith, g .going .relaxed h a b s (omega (arith, low a (g .going .free a (s .from)) f)))
+  straight : (h a b : ℕ) → WorkStep floor h a b → h % 2 ≡ 0 → at x a < unreached → at x b ≤ at x a + span
+  straight h a b s e f =
+      let d = one-wave h (at x a) e in
+      omega (arith, g .going .relaxed h a b s (omega (arith, low a (g .going .free a (s .from)) f)))
 
-  all : (h a b : ℕ) → WorkStep floor h a b → at x a < unreached → at x b ≤ at x a + cost h
+  all : (h a b : ℕ) → WorkStep floor h a b → at x a < unreached → at x b ≤ stepped h (at x a)
   all h a b s f = by (shape h (s .heading))
     where
-      beyond : Corner h → h % 2 ≡ 1 → Dec (limit ≤ at x a + cost h) → at x b ≤ at x a + cost h
+      beyond : Corner h → h % 2 ≡ 1 → Dec (limit ≤ stepped h (at x a)) → at x b ≤ stepped h (at x a)
       beyond k e (no n) = g .going .relaxed h a b s (omega arith)
       beyond k e (yes n) =
           let inside = g .going .border a (s .from) .low in
@@ -69,10 +71,10 @@ module _ (floor : List ℕ) (goal prev last mid tail limit : ℕ) (x q : List �
           let two = straight (k .second) (across a h) b on (k .even .1) found in
           omega (arith, low (across a h) (g .going .free (across a h) (on .from)) found)
 
-      by : Shape h → at x b ≤ at x a + cost h
-      by (level e _) = omega (arith, straight h a b s e f)
-      by (upright e _) = omega (arith, straight h a b s e f)
-      by (slanted e k) = beyond k e (decLe limit (at x a + cost h))
+      by : Shape h → at x b ≤ stepped h (at x a)
+      by (level e _) = omega (arith, straight h a b s e f, one-wave h (at x a) e)
+      by (upright e _) = omega (arith, straight h a b s e f, one-wave h (at x a) e)
+      by (slanted e k) = beyond k e (decLe limit (stepped h (at x a)))
 
   pub solved : Solved floor goal x
   solved = record {

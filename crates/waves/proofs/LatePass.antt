@@ -1,17 +1,17 @@
 -- The first pass of a wave: the late cells of the wave before take their diagonal steps, cell after cell.
 -- Assumes nothing.
-use mathlib.Core.Path.{_≡_, ap, sym, subst, _∙_}
+use mathlib.Core.Path.{_≡_, refl, ap, sym, subst, _∙_}
 use mathlib.Core.Logic.{_⊎_, inl, inr}
 use mathlib.Core.List.{List}
 use Prim.Native.Nat.{ℕ, _+_, _%_, _≤_, _<_}
 use native.Mathlib.Omega.{arith}
 use native.Mathlib.Decide.{decLe, ℕ-discrete}
 use lib.ListN.{getD, length}
-use Rattle.lengths.proofs.Keys.{diagonalKey}
-use Rattle.waves.specs.Work.{highest, at, Inside, WorkStep, Room}
+use Rattle.waves.specs.Work.{span, extra, gap, stepped, highest, at, Inside, WorkStep, Room}
 use Rattle.waves.specs.Wave.{Wave}
 use Rattle.waves.specs.Taken.{Offered, StepsLeft, Late}
 use Rattle.waves.specs.Passes.{LateReady, LateDone, LateLeft}
+use Rattle.waves.proofs.Numbers.{diagonal, like, stretch, far-late}
 use Rattle.waves.proofs.Kept.{Lates}
 use Rattle.waves.proofs.ManySteps.{falls-none, falls-more}
 use Rattle.waves.proofs.OneStep.{open-floor}
@@ -57,12 +57,18 @@ module _ (t₀ prev last : ℕ) (x₀ q₀ : List ℕ) (i : ℕ) (x q : List ℕ
         record {
           index = omega (arith, r .inside, n .order, n .room);
           inside = record { low = omega (arith, late-same, e); high = omega (arith, late-same, e, n .cells) };
-          small = omega (arith, late-keep, late-cell .near, r .small);
+          small = omega (arith, late-keep, late-cell .near, r .ends .small);
           room = n .room;
         }
 
   module _ (v : ℕ) (x′ q′ : List ℕ) (t′ : ℕ) (read : v ≡ at x (getD q i 0))
-      (l : StepsLeft (λ j. j % 2 ≡ 1) (getD q i 0) 1 (v + diagonalKey) t x q x′ q′ t′) where
+      (l : StepsLeft 1 (getD q i 0) (v + (span + extra + gap)) t x q x′ q′ t′) where
+    late-sum : (w : Wave) → LateReady w x₀ q₀ t₀ prev last → v + (span + extra + gap) ≡ stepped 1 (at x₀ p₀)
+    late-sum w r =
+        let c = late-cell w r in
+        let late = far-late (at x₀ p₀) (w .limit) (r .ends .whole) (c .near) (c .after) in
+        omega (arith, late-keep w r, diagonal 1 (at x₀ p₀) refl)
+
     late-more : (w : Wave) → LateReady w x₀ q₀ t₀ prev last → LateDone w prev (i + 1) x₀ q₀ x′ q′ t′
     late-more w r =
         let n = s .keeps w r in
@@ -72,10 +78,10 @@ module _ (t₀ prev last : ℕ) (x₀ q₀ : List ℕ) (i : ℕ) (x q : List ℕ
           going = n .going;
           free = omega (arith, c .free);
           near = omega (arith, c .near);
-          sum = omega arith;
-          low = omega (arith, c .after);
-          high = omega (arith, c .near);
-          small = omega (arith, r .small);
+          sum = late-sum w r ∙ ap (stepped 1) (sym e);
+          low = omega (arith, c .after, late-sum w r);
+          high = omega (arith, c .near, late-sum w r, stretch 1 (at x₀ p₀));
+          small = omega (arith, r .ends .small);
         }) in
         record {
           going = k .going;
@@ -83,13 +89,14 @@ module _ (t₀ prev last : ℕ) (x₀ q₀ : List ℕ) (i : ℕ) (x q : List ℕ
           done = λ j h d a m o u. by n k j h d a m o u (ℕ-discrete j i);
         }
       where
-        by : LateDone w prev i x₀ q₀ x q t → Offered w (λ j. j % 2 ≡ 1) p (v + diagonalKey) x q x′ q′ t′ → (j h d : ℕ)
-            → prev ≤ j → j < i + 1 → h % 2 ≡ 1 → WorkStep (w .floor) h (getD q₀ j 0) d → Dec (j ≡ i) → at x′ d ≤ at x₀ (getD q₀ j 0) + diagonalKey
+        by : LateDone w prev i x₀ q₀ x q t → Offered w (λ j. j % 2 ≡ 1) p (v + (span + extra + gap)) x q x′ q′ t′ → (j h d : ℕ)
+            → prev ≤ j → j < i + 1 → h % 2 ≡ 1 → WorkStep (w .floor) h (getD q₀ j 0) d → Dec (j ≡ i) → at x′ d ≤ stepped h (at x₀ (getD q₀ j 0))
         by n k j h d a m o u (no e) = omega (arith, n .done j h d a (omega arith) o u, k .falls .low d)
         by n k j h d a m o u (yes e) =
             let f : getD q₀ j 0 ≡ p = ap (λ (z : ℕ). getD q₀ z 0) e ∙ sym (late-same w r) in
-            let g : at x₀ (getD q₀ j 0) ≡ at x p = ap (λ (z : ℕ). at x₀ (getD q₀ z 0)) e ∙ sym (late-keep w r) in
-            omega (arith, k .done h d o (subst (λ (z : ℕ). WorkStep (w .floor) h z d) f u))
+            let g : stepped h (at x₀ (getD q₀ j 0)) ≡ stepped 1 (at x₀ p₀) =
+            like h 1 (at x₀ (getD q₀ j 0)) o ∙ ap (λ (z : ℕ). stepped 1 (at x₀ (getD q₀ z 0))) e in
+            omega (arith, late-sum w r, k .done h d o (subst (λ (z : ℕ). WorkStep (w .floor) h z d) f u))
 
     pub lates-more : Lates t₀ prev last x₀ q₀ (i + 1) x′ q′ t′
     lates-more = record { inside = (omega (arith, s .inside .0), inl (omega arith)); keeps = late-more }

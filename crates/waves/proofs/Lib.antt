@@ -1,7 +1,9 @@
+pub mod Numbers
 pub mod Changed
 pub mod OneOffer
 pub mod Turns
 pub mod OneStep
+pub mod SideCells
 pub mod Kept
 pub mod ManySteps
 pub mod LatePass

@@ -17,11 +17,11 @@ use Prim.Native.Nat.{ℕ, _+_, _≤_, _<_}
 use native.Mathlib.Omega.{arith}
 use native.Mathlib.Decide.{decLe}
 use lib.ListN.{getD}
-use Rattle.lengths.proofs.Keys.{straightKey}
-use Rattle.waves.specs.Work.{highest, at, cost, WorkStep}
+use Rattle.waves.specs.Work.{span, lateOf, stepped, highest, at, WorkStep}
 use Rattle.waves.specs.Wave.{Wave, Support, Listed}
-use Rattle.waves.specs.Taken.{This, Late}
+use Rattle.waves.specs.Taken.{This, Late, Ends}
 use Rattle.waves.specs.Passes.{LateReady, LateDone, LateLeft, ThisReady, ThisDone, ThisLeft}
+use Rattle.waves.proofs.Numbers.{like, stretch, longer, far-late}
 use Rattle.waves.proofs.Kept.{the, Between}
 
 module _ (floor : List ℕ) (goal prev last mid end limit : ℕ) (x q : List ℕ) (g : Between floor goal prev last mid end limit x q)
@@ -32,9 +32,12 @@ module _ (floor : List ℕ) (goal prev last mid end limit : ℕ) (x q : List ℕ
   small : limit ≤ highest
   small = omega (arith, g .count, g .going .room)
 
+  ends : Ends (the floor goal end limit)
+  ends = record { whole = g .whole; small = small }
+
   -- the late cells, and then this wave's, are ready for their steps
   pub late-ready : LateReady (the floor goal end limit) x q end prev last
-  late-ready = record { going = g .going; small = small; inside = omega (arith, g .order); cells = g .lates }
+  late-ready = record { going = g .going; ends = ends; inside = omega (arith, g .order); cells = g .lates }
 
   module _ (x′ q′ : List ℕ) (t′ : ℕ) (l : LateLeft end prev last x q x′ q′ t′) where
     first : LateDone (the floor goal end limit) prev last x q x′ q′ t′
@@ -45,16 +48,16 @@ module _ (floor : List ℕ) (goal prev last mid end limit : ℕ) (x q : List ℕ
         let e = first .falls .keep z (k .near) in
         record { free = omega (arith, k .free); after = omega (arith, k .after); near = omega (arith, k .near) }
 
-    pub this-ready : ThisReady (the floor goal end limit) x′ q′ t′ mid end limit
+    pub this-ready : ThisReady (the floor goal end limit) x′ q′ t′ mid end
     this-ready = record {
       going = first .going;
-      ends = record { same = refl; small = small };
+      ends = ends;
       same-end = refl;
       order = omega arith;
       cells = λ i m n. subst (This x′ limit) (sym (first .falls .queue i n)) (moved (getD q i 0) (g .these i m n));
     }
 
-    module _ (x″ q″ : List ℕ) (t″ last′ : ℕ) (n : ThisLeft t′ mid end limit x′ q′ x″ q″ t″ last′) where
+    module _ (x″ q″ : List ℕ) (t″ last′ : ℕ) (n : ThisLeft t′ mid end x′ q′ x″ q″ t″ last′) where
       second : ThisDone (the floor goal end limit) mid end last′ x′ q′ x″ q″ t″
       second = n .keeps v this-ready
 
@@ -70,50 +73,55 @@ module _ (floor : List ℕ) (goal prev last mid end limit : ℕ) (x q : List ℕ
           by (no k) = sym (kept z (omega arith))
 
       -- no step that ends in the wave that was taken would lower a cell
-      now-relaxed : (h a b : ℕ) → WorkStep floor h a b → at x″ a + cost h < limit + straightKey → at x″ b ≤ at x″ a + cost h
-      now-relaxed h a b u k = by (decLe limit (at x″ a + cost h)) (decLe limit (at x″ a + straightKey))
+      now-relaxed : (h a b : ℕ) → WorkStep floor h a b → stepped h (at x″ a) < limit + span → at x″ b ≤ stepped h (at x″ a)
+      now-relaxed h a b u k = by (decLe limit (stepped h (at x″ a))) (decLe limit (at x″ a + span))
         where
-          e : at x″ a < limit → at x a ≡ at x″ a
-          e = was a
+          e : at x a ≡ at x″ a
+          e = was a (omega (arith, stretch h (at x″ a) .least))
 
           free : 0 < at x″ a
           free = second .going .free a (u .from)
 
-          by : Dec (limit ≤ at x″ a + cost h) → Dec (limit ≤ at x″ a + straightKey) → at x″ b ≤ at x″ a + cost h
+          by : Dec (limit ≤ stepped h (at x″ a)) → Dec (limit ≤ at x″ a + span) → at x″ b ≤ stepped h (at x″ a)
           by (no m) o = second .going .relaxed h a b u (omega arith)
           by (yes m) (yes o) =
-              let same = e (omega arith) in
-              let i = g .in-these a (record { free = omega (arith, free); after = omega arith; near = omega arith }) in
+              let least = stretch h (at x″ a) .least in
+              let i = g .in-these a (record { free = omega (arith, free, e); after = omega (arith, e); near = omega (arith, e) }) in
               let j = i .index in
               let f : getD q′ j 0 ≡ a = first .falls .queue j (i .before) ∙ i .here in
-              let d : at x′ (getD q′ j 0) ≡ at x″ a = ap (at x′) f ∙ first .falls .keep a (omega arith) ∙ same in
+              let d : at x′ (getD q′ j 0) ≡ at x″ a = ap (at x′) f ∙ first .falls .keep a (omega (arith, e)) ∙ e in
+              let f′ = ap (stepped h) d in
               omega (arith, second .done j h b (i .after) (i .before) (subst (λ (z : ℕ). WorkStep floor h z b) (sym f) u) (omega arith))
           by (yes m) (no o) =
-              let same = e (omega arith) in
-              let i = g .in-late a (record { free = omega (arith, free); after = omega arith; near = omega arith }) in
+              let odd = longer h (at x″ a) (omega arith) in
+              let one : stepped h (at x″ a) ≡ stepped 1 (at x a) = like h 1 (at x″ a) odd ∙ ap (stepped 1) (sym e) in
+              let i = g .in-late a (record { free = omega (arith, free, e); after = omega arith; near = omega (arith, e) }) in
               let j = i .index in
-              let f : at x (getD q j 0) ≡ at x a = ap (at x) (i .here) in
+              let f : stepped h (at x (getD q j 0)) ≡ stepped h (at x″ a) = ap (λ (z : ℕ). stepped h (at x z)) (i .here) ∙ ap (stepped h) e in
               let s = subst (λ (z : ℕ). WorkStep floor h z b) (sym (i .here)) u in
-              omega (arith, second .low b, first .done j h b (i .after) (i .before) (omega arith) s)
+              omega (arith, second .low b, first .done j h b (i .after) (i .before) odd s)
 
       -- the late cells of this wave
-      late-now : (z : ℕ) → Late x′ (limit + straightKey) z → Late x″ (limit + straightKey) z
+      late-now : (z : ℕ) → Late x′ (limit + span) z → Late x″ (limit + span) z
       late-now z k =
           let e = second .keep z (omega (arith, k .near)) in
-          record { free = omega (arith, k .free); after = omega (arith, k .after); near = omega (arith, k .near) }
+          record { free = omega (arith, k .free); after = omega (arith, k .after, ap (stepped 1) e); near = omega (arith, k .near) }
 
-      find-late : (z : ℕ) → Late x″ (limit + straightKey) z → Listed q″ mid last′ z
+      find-late : (z : ℕ) → Late x″ (limit + span) z → Listed q″ mid last′ z
       find-late z k =
           let same = was z (omega (arith, k .near)) in
+          let late = far-late (at x″ z) (limit + span) (omega (arith, g .whole)) (k .near) (k .after) in
+          let far = stretch 1 (at x″ z) .most in
           let i = g .in-these z (record { free = omega (arith, k .free); after = omega (arith, k .after); near = omega (arith, k .near) }) in
           let j = i .index in
           let f : getD q′ j 0 ≡ z = first .falls .queue j (i .before) ∙ i .here in
           let d : at x′ (getD q′ j 0) ≡ at x″ z = ap (at x′) f ∙ first .falls .keep z (omega (arith, k .near)) ∙ same in
-          subst (Listed q″ mid last′) f (second .listed j (i .after) (i .before) (omega (arith, k .after)))
+          subst (Listed q″ mid last′) f (second .listed j (i .after) (i .before) (ap lateOf d ∙ late))
 
-      pub next : Between floor goal mid last′ end t″ (limit + straightKey) x″ q″
+      pub next : Between floor goal mid last′ end t″ (limit + span) x″ q″
       next = record {
         count = omega (arith, g .count);
+        whole = omega (arith, g .whole);
         order = (n .order .0, n .order .1, second .going .order);
         settled = λ z r. second .going .below z (r .found);
         lates = λ i m k. late-now (getD q″ i 0) (second .late i m k);
@@ -150,6 +158,6 @@ module _ (floor : List ℕ) (goal prev last mid end limit : ℕ) (x q : List ℕ
               by (no k) = absurd (omega (arith, g .these mid (omega arith) more .near))
 
           again : (z : ℕ) → (z ≡ goal) ⊎ Support (the floor goal end limit) x″ z (at x″ z)
-              → (z ≡ goal) ⊎ Support (the floor goal t″ (limit + straightKey)) x″ z (at x″ z)
+              → (z ≡ goal) ⊎ Support (the floor goal t″ (limit + span)) x″ z (at x″ z)
           again z (inl e) = inl e
           again z (inr u) = inr (record { heading = u .heading; cell = u .cell; step = u .step; near = omega (arith, u .near); sum = u .sum })

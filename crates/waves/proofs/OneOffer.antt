@@ -8,9 +8,9 @@ use native.Mathlib.Omega.{arith}
 use native.Mathlib.Decide.{ℕ-discrete}
 use lib.ListN.{getD, length, set, length-set}
 use lib.Seq.{getD-set-same, getD-set-other}
-use Rattle.lengths.proofs.Keys.{straightKey}
-use Rattle.waves.specs.Work.{unreached, at, cost, WorkStep, Room}
+use Rattle.waves.specs.Work.{unreached, span, stepped, at, WorkStep, Room}
 use Rattle.waves.specs.Wave.{Wave, Support, Listed, Next, Going, Falls}
+use Rattle.waves.proofs.Numbers.{stretch}
 use Rattle.waves.proofs.Changed.{each, room-queue}
 
 -- what stands in the queue before its end
@@ -50,8 +50,8 @@ module _ (w : Wave) (x q : List ℕ) (t a : ℕ) (g : Going w x q t) where
   idle-falls = record { low = λ z. omega arith; keep = λ z h. refl; high = λ z h. h; queue = λ i h. front q t a i (omega (arith, g .order)) }
 
   -- a step in this wave lowers the cell at a
-  module _ (h p cand : ℕ) (s : WorkStep (w .floor) h p a) (near : at x p < w .limit) (sum : cand ≡ at x p + cost h) (low : w .limit ≤ cand)
-      (high : cand < w .limit + straightKey) (less : cand < at x a) (small : w .limit + straightKey ≤ unreached) where
+  module _ (h p cand : ℕ) (s : WorkStep (w .floor) h p a) (near : at x p < w .limit) (sum : cand ≡ stepped h (at x p)) (low : w .limit ≤ cand)
+      (high : cand < w .limit + span) (less : cand < at x a) (small : w .limit + span ≤ unreached) where
     in-x : a < length x
     in-x = omega (arith, g .border a (s .to), g .cells)
 
@@ -82,7 +82,7 @@ module _ (w : Wave) (x q : List ℕ) (t a : ℕ) (g : Going w x q t) where
     supports : (z : ℕ) → 0 < at x′ z → at x′ z < unreached → (z ≡ w .goal) ⊎ Support w x′ z (at x′ z)
     supports =
         new (λ i v. 0 < v → v < unreached → (i ≡ w .goal) ⊎ Support w x′ i v)
-        (λ o f. inr (record { heading = h; cell = p; step = s; near = omega (arith, stays p near); sum = omega (arith, stays p near) }))
+        (λ o f. inr (record { heading = h; cell = p; step = s; near = omega (arith, stays p near); sum = sum ∙ ap (stepped h) (sym (stays p near)) }))
         (λ i e o f. again i (g .support i o f))
       where
         again : (i : ℕ) → (i ≡ w .goal) ⊎ Support w x i (at x i) → (i ≡ w .goal) ⊎ Support w x′ i (at x i)
@@ -92,12 +92,14 @@ module _ (w : Wave) (x q : List ℕ) (t a : ℕ) (g : Going w x q t) where
           cell = u .cell;
           step = u .step;
           near = omega (arith, stays (u .cell) (u .near));
-          sum = omega (arith, stays (u .cell) (u .near), u .sum);
+          sum = u .sum ∙ ap (stepped (u .heading)) (sym (stays (u .cell) (u .near)));
         })
 
-    relaxes : (j b c : ℕ) → WorkStep (w .floor) j b c → at x′ b + cost j < w .limit → at x′ c ≤ at x′ b + cost j
+    relaxes : (j b c : ℕ) → WorkStep (w .floor) j b c → stepped j (at x′ b) < w .limit → at x′ c ≤ stepped j (at x′ b)
     relaxes j b c u k =
+        let l = stretch j (at x′ b) .least in
         let m = new (λ i v. v < w .limit → at x i ≡ v) (λ n. absurd (omega arith)) (λ i e n. refl) b (omega arith) in
+        let f = ap (stepped j) m in
         omega (arith, falls c, g .relaxed j b c u (omega arith))
 
     -- all but what depends on the queue's end
@@ -112,9 +114,9 @@ module _ (w : Wave) (x q : List ℕ) (t a : ℕ) (g : Going w x q t) where
       free = new (λ i v. 0 < at (w .floor) i → 0 < v) (λ o. omega arith) (λ i e. g .free i);
       shut = new (λ i v. at (w .floor) i ≡ 0 → v ≡ 0) (λ o. absurd (omega (arith, s .to))) (λ i e. g .shut i);
       start =
-          new (λ i v. i ≡ w .goal → v ≡ straightKey) (λ e. absurd (omega (arith, ap (at x) e, g .start)))
+          new (λ i v. i ≡ w .goal → v ≡ span) (λ e. absurd (omega (arith, ap (at x) e, g .start, stretch h (at x p))))
           (λ i e m. ap (at x) m ∙ g .start) (w .goal) refl;
-      below = new (λ i v. v < unreached → v < w .limit + straightKey) (λ o. high) (λ i e. g .below i);
+      below = new (λ i v. v < unreached → v < w .limit + span) (λ o. high) (λ i e. g .below i);
       support = supports;
       relaxed = relaxes;
       listed = listed;

@@ -1,18 +1,16 @@
--- One heading's step out of a cell, whatever the heading, keeps what the waves keep and offers its target what it should. The code's offer is
--- made to the target, past the two cells beside it; of a straight step these are its ends, so that it need not look at them.
+-- One heading's step out of a cell, whatever the heading, keeps what the waves keep and offers its target what it should: the offer is made
+-- past the two cells beside it. Of a straight step these are its ends, so that it need not look at them.
 -- Assumes nothing.
-use mathlib.Core.Path.{_≡_, refl, ap, sym, subst, _∙_}
+use mathlib.Core.Path.{_≡_, refl, ap, sym, subst}
 use mathlib.Core.List.{List}
-use Prim.Native.Nat.{ℕ, _+_, _-_, _*_, _/_, _%_, min, _≤_, _<_}
+use Prim.Native.Nat.{ℕ, _+_, _-_, _/_, _%_, min, _≤_, _<_}
 use native.Mathlib.Omega.{arith}
 use native.Mathlib.Decide.{decLe, ℕ-discrete}
-use lib.ListN.{length, set, length-set}
+use lib.ListN.{length, set}
 use lib.Seq.{getD-set-same, set-getD}
-use Rattle.floor.specs.Heading.{changeOf}
-use Rattle.floor.specs.declared.Change.{Change}
 use Rattle.waves.specs.Work.{unreached, stride, at, Inside, target, beside, across, WorkStep, Room}
 use Rattle.waves.specs.Wave.{Wave, Going, Falls}
-use Rattle.waves.specs.Taken.{OfferMade, Past, Offers, Offered, StepsLeft}
+use Rattle.waves.specs.Taken.{OfferMade, Offers, Offered}
 use Rattle.waves.proofs.Turns.{Shape, level, upright, slanted, shape}
 use Rattle.waves.proofs.OneOffer.{idle, idle-falls, lowered, fresh, lower-falls}
 
@@ -25,10 +23,10 @@ open-floor {w} {x} g z o = by (ℕ-discrete (at (w .floor) z) 0)
     by (no e) = omega arith
 
 -- c is what the step h out of p offers past the two cells beside it: if one is blocked, too much to count
-record Fits (x : List ℕ) (p h cand c : ℕ) : Type 0 where
-  first : at x (beside p h) ≡ 0 → at x (target p h) ≤ c
-  second : at x (across p h) ≡ 0 → at x (target p h) ≤ c
-  both : 0 < at x (beside p h) → 0 < at x (across p h) → c ≡ cand
+pub record Fits (x : List ℕ) (p h cand c : ℕ) : Type 0 where
+  pub first : at x (beside p h) ≡ 0 → at x (target p h) ≤ c
+  pub second : at x (across p h) ≡ 0 → at x (target p h) ≤ c
+  pub both : 0 < at x (beside p h) → 0 < at x (across p h) → c ≡ cand
 
 module _ (w : Wave) (x q : List ℕ) (t p h cand c : ℕ) (in-table : h < 8) (o : Offers w x q t p h cand) (past : Fits x p h cand c) where
   abbrev a : ℕ
@@ -139,55 +137,15 @@ move3 : (P : List ℕ → List ℕ → ℕ → Type 0) {x x′ q q′ : List ℕ
 move3 P {x} {x′} {q} {q′} {t} {t′} e f d k =
     subst (λ (z : ℕ). P x′ q′ z) d (subst (λ (l : List ℕ). P x′ l t) f (subst (λ (l : List ℕ). P l q t) e k))
 
--- what the code's step does is one offer
-module _ (x q : List ℕ) (t p h cand c : ℕ) (change : Change) (x′ q′ : List ℕ) (t′ : ℕ) (in-table : h < 8) (read : change ≡ changeOf h) where
-  abbrev code : ℕ
-  code = p + change .row * stride + change .column - (stride + 1)
+-- an offer to the target of what fits is the step
+pub one-step :
+    (w : Wave) (x q : List ℕ) (t p h cand c : ℕ) (x′ q′ : List ℕ) (t′ : ℕ) → h < 8 → OfferMade (target p h) c t x q x′ q′ t′
+    → Offers w x q t p h cand → Fits x p h cand c → Offered w (λ j. j ≡ h) p cand x q x′ q′ t′
+one-step w x q t p h cand c x′ q′ t′ in-table made o fits =
+    move3 (λ u v n. Offered w (λ j. j ≡ h) p cand x q u v n) (sym (made .cells)) (sym (made .queue)) (sym (made .end))
+    (offer-law w x q t p h cand c in-table o fits (move3 Room (made .cells) (made .queue) (made .end) (made .room)))
 
-  abbrev Left : Type 0
-  Left = OfferMade code c t x q x′ q′ t′ → StepsLeft (λ j. j ≡ h) p h cand t x q x′ q′ t′
-
-  across-is : change .column ≡ changeOf h .column
-  across-is = ap (λ (z : Change). z .column) read
-
-  down-is : change .row ≡ changeOf h .row
-  down-is = ap (λ (z : Change). z .row) read
-
-  left : ((w : Wave) → Offers w x q t p h cand → Fits x p h cand c) → Left
-  left fits o = record { size = ap length (o .cells) ∙ length-set x code _; room = o .room; keeps = keeps }
-    where
-      same : code ≡ target p h
-      same = omega (arith, across-is, down-is)
-
-      cells : x′ ≡ set x (target p h) (min c (at x (target p h)))
-      cells = o .cells ∙ ap (λ (i : ℕ). set x i (min c (at x i))) same
-
-      queue : q′ ≡ set q t (target p h)
-      queue = o .queue ∙ ap (set q t) same
-
-      end : t′ ≡ t + (at x (target p h) / unreached - min c (at x (target p h)) / unreached)
-      end = o .end ∙ ap (λ (i : ℕ). t + (at x i / unreached - min c (at x i) / unreached)) same
-
-      keeps : (w : Wave) → Offers w x q t p h cand → Offered w (λ j. j ≡ h) p cand x q x′ q′ t′
-      keeps w f =
-          move3 (λ u v n. Offered w (λ j. j ≡ h) p cand x q u v n) (sym cells) (sym queue) (sym end)
-          (offer-law w x q t p h cand c in-table f (fits w f) (move3 Room cells queue end (o .room)))
-
-  pub straight-left : c ≡ cand → Inside x p → h % 2 ≡ 0 → Left
-  straight-left e inside even =
-      left (λ w o. subst (Fits x p h cand) (sym e) (fits-straight x p h cand (inside .low) (o .free) even (shape h in-table)))
-
-  pub diagonal-left : Past cand (at x (p + change .row * stride - stride)) (at x (p + change .column - 1)) c → Left
-  diagonal-left past =
-      left (λ w o. let k = o .going .kinds (target p h) in
-      record {
-        first = λ e. omega (arith, past .first (ap (at x) side ∙ e));
-        second = λ e. omega (arith, past .second (ap (at x) other ∙ e));
-        both = λ a b. past .both (omega (arith, ap (at x) side)) (omega (arith, ap (at x) other));
-      })
-    where
-      side : p + change .row * stride - stride ≡ beside p h
-      side = omega (arith, down-is)
-
-      other : p + change .column - 1 ≡ across p h
-      other = omega (arith, across-is)
+-- a straight step offers its number as it is
+pub straight-fits : (x : List ℕ) (p h cand c : ℕ) → h < 8 → c ≡ cand → stride + 1 ≤ p → 0 < at x p → h % 2 ≡ 0 → Fits x p h cand c
+straight-fits x p h cand c in-table e low o even =
+    subst (Fits x p h cand) (sym e) (fits-straight x p h cand low o even (shape h in-table))

@@ -1,5 +1,6 @@
 -- What the waves leave is what the neighbours make each cell, and so the shortest lengths. A number that was found stands for a length, since
--- its support does and a step adds its key; that no step would lower a number says, by keys, that no neighbour offers less.
+-- its support does and a step adds its key; that no step would lower a number says, by the keys that numbers stand for and in whose order they
+-- are, that no neighbour offers less.
 -- Assumes nothing.
 use mathlib.Core.Path.{_≡_, refl, ap, ap₂, sym, subst, subst₂, _∙_}
 use mathlib.Core.Logic.{_⊎_, inl, inr}
@@ -18,16 +19,17 @@ use Rattle.entries.specs.Entry.{Entry, mark, long}
 use Rattle.entries.specs.Filled.{Says}
 use Rattle.entries.specs.Made.{Least, Made}
 use Rattle.entries.proofs.Neighbours.{no-mark, long-inj, sound}
-use Rattle.waves.specs.Work.{unreached, stride, at, spot, cost, WorkStep}
+use Rattle.waves.specs.Work.{unreached, stride, span, stepped, at, spot, WorkStep}
 use Rattle.waves.specs.Solved.{Found, Solved}
-use Rattle.waves.specs.Store.{entryBy, entryOf, Keyed}
+use Rattle.waves.specs.Store.{keyOf, entryBy, entryOf, Keyed}
+use Rattle.waves.proofs.Numbers.{like, stretch, steps-add, key-monotone}
 use Rattle.waves.proofs.OnWork.{Mapped, spot-column, spot-row, back, to-work, from-work, opens}
 
 -- what a number can be
 pub data Kind (v : ℕ) : Type 0 where
   shut : v ≡ 0 → entryOf v ≡ mark → Kind v
   waits : unreached ≤ v → entryOf v ≡ mark → Kind v
-  reached : 0 < v → v < unreached → entryOf v ≡ long (pair (v - straightKey)) → Kind v
+  reached : 0 < v → v < unreached → entryOf v ≡ long (pair (keyOf v - straightKey)) → Kind v
 
 pub kind : (v : ℕ) → Kind v
 unfolding entryOf
@@ -38,14 +40,6 @@ kind v = by (ℕ-discrete v 0) refl (decLe (suc v) unreached) refl
     by (no e) p (yes b) q = reached (omega arith) b (ap₂ (entryBy v) p q)
     by (no e) p (no b) q = waits (omega arith) (ap₂ (entryBy v) p q)
 
-weight-key : (h : ℕ) → key (weight h) ≡ cost h
-weight-key h = by (h % 2) refl
-  where
-    by : (b : ℕ) → h % 2 ≡ b → key (byParity b) ≡ cost h
-    by zero e = omega arith
-    by (suc zero) e = omega arith
-    by (suc (suc b)) e = absurd (omega arith)
-
 module _ (floor : List ℕ) (goal : ℕ) (x : List ℕ) (s : Solved floor goal x) where
   -- each number that was found stands for a length: that of the cell it was found from, and the step
   keyed-below : (n z : ℕ) → at x z ≤ n → 0 < at x z → at x z < unreached → Keyed (at x z)
@@ -53,21 +47,27 @@ module _ (floor : List ℕ) (goal : ℕ) (x : List ℕ) (s : Solved floor goal x
   keyed-below (suc n) z b o f = by (s .support z o f) (keyed-below n)
     where
       by : (z ≡ goal) ⊎ Found floor x z (at x z) → ((y : ℕ) → at x y ≤ n → 0 < at x y → at x y < unreached → Keyed (at x y)) → Keyed (at x z)
-      by (inl e) ih = record { length = zeroLength; sum = ap (at x) e ∙ s .start }
+      by (inl e) ih = let start : at x z ≡ span = ap (at x) e ∙ s .start in record { length = zeroLength; sum = ap keyOf start; rest = omega arith }
       by (inr u) ih =
-          let k = ih (u .cell) (omega (arith, u .sum)) (s .free (u .cell) (u .step .from)) (u .found) in
-          record { length = k .length ⊕ weight (u .heading); sum = omega (arith, u .sum, k .sum, weight-key (u .heading)) }
+          let k = ih (u .cell) (omega (arith, u .sum, stretch (u .heading) (at x (u .cell)))) (s .free (u .cell) (u .step .from)) (u .found) in
+          let add = steps-add (u .heading) (at x (u .cell)) in
+          record {
+            length = k .length ⊕ weight (u .heading);
+            sum = ap keyOf (u .sum) ∙ add .sum ∙ ap (λ (n : ℕ). n + key (weight (u .heading))) (k .sum) ∙ omega arith;
+            rest = subst (λ (v : ℕ). v % span < straightKey) (sym (u .sum)) (add .rest (k .rest));
+          }
 
   pub keyed : (z : ℕ) → 0 < at x z → at x z < unreached → Keyed (at x z)
   keyed z = keyed-below (at x z) z (le-refl (at x z))
 
   -- its parts are small, and it is read from the number
-  few : (z : ℕ) (f : at x z < unreached) (l : Length) → at x z ≡ straightKey + key l → (l .straight < diagonalKey) × (l .diagonal < straightKey)
+  few : (z : ℕ) (f : at x z < unreached) (l : Length) → keyOf (at x z) ≡ straightKey + key l
+      → (l .straight < diagonalKey) × (l .diagonal < straightKey)
   few z f l e = (omega (arith, s .below z f), omega (arith, s .below z f))
 
-  read : (z : ℕ) (f : at x z < unreached) (l : Length) → at x z ≡ straightKey + key l → pair (at x z - straightKey) ≡ l
+  read : (z : ℕ) (f : at x z < unreached) (l : Length) → keyOf (at x z) ≡ straightKey + key l → pair (keyOf (at x z) - straightKey) ≡ l
   read z f l e =
-      let k : at x z - straightKey ≡ key l = omega arith in
+      let k : keyOf (at x z) - straightKey ≡ key l = omega arith in
       ap pair k ∙ pair-back l (few z f l e .1)
 
 module _ (f : Floor) (wide : 0 < f .width) (floor x : List ℕ) (m : Mapped f floor) (g : ℕ)
@@ -91,9 +91,9 @@ module _ (f : Floor) (wide : 0 < f .width) (floor x : List ℕ) (m : Mapped f fl
       sym (div-add-mod' y (f .width)) ∙ ap₂ (λ (u v : ℕ). u * f .width + v) b a ∙ div-add-mod' z (f .width)
 
   at-goal : T g ≡ long zeroLength
-  at-goal = ap entryOf (s .start) ∙ by (kind straightKey)
+  at-goal = ap entryOf (s .start) ∙ by (kind span)
     where
-      by : Kind straightKey → entryOf straightKey ≡ long zeroLength
+      by : Kind span → entryOf span ≡ long zeroLength
       by (shut e p) = absurd (omega arith)
       by (waits e p) = absurd (omega arith)
       by (reached o k p) = p
@@ -109,8 +109,10 @@ module _ (f : Floor) (wide : 0 < f .width) (floor x : List ℕ) (m : Mapped f fl
   again h y z u = back floor h (place y) (place z) (low y) (low z) (there h y z u)
 
   -- over a step from y to z, y is not above z and the step
-  over : (h y z : ℕ) → (graph f) .Step h y z → at x (place z) < unreached → at x (place y) ≤ at x (place z) + cost h
-  over h y z u k = omega (arith, s .relaxed ((h + 4) % 8) (place z) (place y) (again h y z u) k)
+  over : (h y z : ℕ) → (graph f) .Step h y z → at x (place z) < unreached → at x (place y) ≤ stepped h (at x (place z))
+  over h y z u k =
+      let parity : h % 2 ≡ (h + 4) % 8 % 2 = omega arith in
+      omega (arith, s .relaxed ((h + 4) % 8) (place z) (place y) (again h y z u) k, like h ((h + 4) % 8) (at x (place z)) parity)
 
   marks : (y : ℕ) → (at x (place y) ≡ 0) ⊎ (unreached ≤ at x (place y)) → Least (graph f) T y mark
   marks y v h z u = by (kind (at x (place z))) v
@@ -119,14 +121,14 @@ module _ (f : Floor) (wide : 0 < f .width) (floor x : List ℕ) (m : Mapped f fl
       by (shut e p) v = p
       by (waits e p) v = p
       by (reached o k p) (inl e) = absurd (omega (arith, s .free (place y) (there h y z u .from)))
-      by (reached o k p) (inr e) = absurd (omega (arith, over h y z u k, s .below (place z) k))
+      by (reached o k p) (inr e) = absurd (omega (arith, over h y z u k, s .below (place z) k, stretch h (at x (place z))))
 
   lengths : (y : ℕ) → ¬ Goal y → 0 < at x (place y) → at x (place y) < unreached
-      → Least (graph f) T y (long (pair (at x (place y) - straightKey)))
+      → Least (graph f) T y (long (pair (keyOf (at x (place y)) - straightKey)))
   lengths y other o k = (some (s .support (place y) o k), all)
     where
       some : (place y ≡ place g) ⊎ Found floor x (place y) (at x (place y))
-          → (h : ℕ) × (z : ℕ) × (n : Length) × (graph f) .Step h y z × (T z ≡ long n) × (pair (at x (place y) - straightKey) ≡ n ⊕ weight h)
+          → (h : ℕ) × (z : ℕ) × (n : Length) × (graph f) .Step h y z × (T z ≡ long n) × (pair (keyOf (at x (place y)) - straightKey) ≡ n ⊕ weight h)
       some (inl e) = absurd (other (same-cell y g e))
       some (inr u) =
           let from = u .step .from in
@@ -149,11 +151,14 @@ module _ (f : Floor) (wide : 0 < f .width) (floor x : List ℕ) (m : Mapped f fl
           let parity : (u .heading + 4) % 8 % 2 ≡ u .heading % 2 = omega arith in
           let e : weight ((u .heading + 4) % 8) ≡ weight (u .heading) = ap byParity parity in
           let entry-z = reads z (omega arith) (omega (arith, u .found)) n (kz .sum) in
-          let sum : at x (place y) ≡ straightKey + key (n ⊕ weight (u .heading)) = omega (arith, u .sum, kz .sum, weight-key (u .heading)) in
+          let found = ap keyOf (u .sum ∙ ap (stepped (u .heading)) (sym same)) ∙ steps-add (u .heading) (at x (place z)) .sum in
+          let sum : keyOf (at x (place y)) ≡ straightKey + key (n ⊕ weight (u .heading)) =
+          found ∙ ap (λ (v : ℕ). v + key (weight (u .heading))) (kz .sum) ∙ omega arith in
           let read-y = read floor (place g) x s (place y) k (n ⊕ weight (u .heading)) sum in
           ((u .heading + 4) % 8, z, n, go, entry-z, read-y ∙ ap (λ (d : Length). n ⊕ d) (sym e))
         where
-          reads : (z : ℕ) → 0 < at x (place z) → at x (place z) < unreached → (n : Length) → at x (place z) ≡ straightKey + key n → T z ≡ long n
+          reads : (z : ℕ) → 0 < at x (place z) → at x (place z) < unreached → (n : Length) → keyOf (at x (place z)) ≡ straightKey + key n
+              → T z ≡ long n
           reads z o k n e = by (kind (at x (place z)))
             where
               by : Kind (at x (place z)) → T z ≡ long n
@@ -161,10 +166,10 @@ module _ (f : Floor) (wide : 0 < f .width) (floor x : List ℕ) (m : Mapped f fl
               by (waits d p) = absurd (omega arith)
               by (reached d b p) = p ∙ ap long (read floor (place g) x s (place z) k n e)
 
-      all : (h z : ℕ) (n : Length) → (graph f) .Step h y z → T z ≡ long n → pair (at x (place y) - straightKey) ⊑ n ⊕ weight h
+      all : (h z : ℕ) (n : Length) → (graph f) .Step h y z → T z ≡ long n → pair (keyOf (at x (place y)) - straightKey) ⊑ n ⊕ weight h
       all h z n u e = by (kind (at x (place z)))
         where
-          by : Kind (at x (place z)) → pair (at x (place y) - straightKey) ⊑ n ⊕ weight h
+          by : Kind (at x (place z)) → pair (keyOf (at x (place y)) - straightKey) ⊑ n ⊕ weight h
           by (shut d p) = absurd (no-mark (sym e ∙ p))
           by (waits d p) = absurd (no-mark (sym e ∙ p))
           by (reached d b p) =
@@ -173,7 +178,7 @@ module _ (f : Floor) (wide : 0 < f .width) (floor x : List ℕ) (m : Mapped f fl
               let same : n ≡ kz .length = long-inj (sym e ∙ p) ∙ read floor (place g) x s (place z) b (kz .length) (kz .sum) in
               subst₂ _⊑_ (sym (read floor (place g) x s (place y) k (ky .length) (ky .sum))) (ap (λ (d : Length). d ⊕ weight h) (sym same))
               (key-order (ky .length) (kz .length ⊕ weight h) (few floor (place g) x s (place y) k (ky .length) (ky .sum) .0)
-              (omega (arith, over h y z u b, weight-key h, ky .sum, kz .sum)))
+              (omega (arith, key-monotone _ _ (ky .rest) (over h y z u b), steps-add h (at x (place z)) .sum, ky .sum, kz .sum)))
 
   made : (y : ℕ) → Made (graph f) Goal T y (T y)
   made y = record { at-goal = λ e. ap T e ∙ at-goal; elsewhere = λ other. by other (kind (at x (place y))) }

@@ -3,31 +3,23 @@
 -- Assumes nothing.
 use mathlib.Core.Path.{_≡_, refl, ap, sym, subst, _∙_}
 use mathlib.Core.List.{List}
-use Prim.Native.Nat.{ℕ, _+_, _-_, _≤_, _<_}
+use Prim.Native.Nat.{ℕ, _+_, _≤_, _<_}
 use native.Mathlib.Omega.{arith}
-use native.Mathlib.Decide.{decLe, ℕ-discrete}
+use native.Mathlib.Decide.{ℕ-discrete}
 use lib.ListN.{getD, length, set}
 use lib.Seq.{getD-set-same, getD-set-other}
-use Rattle.lengths.proofs.Keys.{straightKey, diagonalKey}
-use Rattle.waves.specs.Work.{at, cost, WorkStep}
+use Rattle.waves.specs.Work.{span, lateOf, stepped, at, WorkStep}
 use Rattle.waves.specs.Wave.{Wave, Listed}
-use Rattle.waves.specs.Taken.{This, Late, Taken, TakenLeft, LateBit}
+use Rattle.waves.specs.Taken.{This, Late, Taken, TakenLeft}
 use Rattle.waves.specs.Passes.{ThisReady, ThisDone, ThisLeft}
 use Rattle.waves.proofs.Kept.{These}
+use Rattle.waves.proofs.Numbers.{late-bit, late-far}
 use Rattle.waves.proofs.OneOffer.{aside}
 use Rattle.waves.proofs.OneStep.{open-floor}
 use Rattle.waves.proofs.LatePass.{Safe}
 
--- a bit is 0 or 1
-pub bit-bound : (v limit n : ℕ) → LateBit v limit n → n ≤ 1
-bit-bound v limit n bit = by (decLe limit (v + (diagonalKey - straightKey)))
-  where
-    by : Dec (limit ≤ v + (diagonalKey - straightKey)) → n ≤ 1
-    by (yes z) = omega (arith, bit .late z)
-    by (no z) = omega (arith, bit .early (omega arith))
-
-pub these-none : (t mid end limit : ℕ) (x q : List ℕ) → mid ≤ end → These t mid end limit x q mid mid x q t
-these-none t mid end limit x q le = record {
+pub these-none : (t mid end : ℕ) (x q : List ℕ) → mid ≤ end → These t mid end x q mid mid x q t
+these-none t mid end x q le = record {
   order = (omega arith, omega arith, le);
   keeps = λ w r. record {
     going = r .going;
@@ -41,25 +33,25 @@ these-none t mid end limit x q le = record {
   };
 }
 
-module _ (t₀ mid end limit : ℕ) (x₀ q₀ : List ℕ) (i last : ℕ) (x q : List ℕ) (t : ℕ)
-    (s : These t₀ mid end limit x₀ q₀ i last x q t) (b : i < end) where
+module _ (t₀ mid end : ℕ) (x₀ q₀ : List ℕ) (i last : ℕ) (x q : List ℕ) (t : ℕ)
+    (s : These t₀ mid end x₀ q₀ i last x q t) (b : i < end) where
   abbrev c : ℕ
   c = getD q i 0
 
   abbrev c₀ : ℕ
   c₀ = getD q₀ i 0
 
-  module _ (w : Wave) (r : ThisReady w x₀ q₀ t₀ mid end limit) where
+  module _ (w : Wave) (r : ThisReady w x₀ q₀ t₀ mid end) where
     this-same : c ≡ c₀
     this-same = s .keeps w r .rest i (omega arith) (omega (arith, r .same-end))
 
-    this-cell : This x₀ limit c₀
+    this-cell : This x₀ (w .limit) c₀
     this-cell = r .cells i (omega (arith, s .order)) b
 
     this-keep : at x c ≡ at x₀ c₀
-    this-keep = ap (at x) this-same ∙ s .keeps w r .keep c₀ (omega (arith, this-cell .near, r .ends .same))
+    this-keep = ap (at x) this-same ∙ s .keeps w r .keep c₀ (this-cell .near)
 
-    now-this : This x limit c
+    now-this : This x (w .limit) c
     now-this =
         let e = this-keep in
         let k = this-cell in
@@ -76,11 +68,11 @@ module _ (t₀ mid end limit : ℕ) (x₀ q₀ : List ℕ) (i last : ℕ) (x q :
           room = n .room;
         }
 
-  module _ (x′ q′ : List ℕ) (t′ n : ℕ) (l : TakenLeft (getD q i 0) t limit x q x′ q′ t′) (bit : LateBit (at x (getD q i 0)) limit n) where
+  module _ (x′ q′ : List ℕ) (t′ n : ℕ) (l : TakenLeft (getD q i 0) t x q x′ q′ t′) (bit : n ≡ lateOf (at x (getD q i 0))) where
     abbrev q″ : List ℕ
     q″ = set q′ last c
 
-    more : (w : Wave) → ThisReady w x₀ q₀ t₀ mid end limit → ThisDone w mid (i + 1) (last + n) x₀ q₀ x′ q″ t′
+    more : (w : Wave) → ThisReady w x₀ q₀ t₀ mid end → ThisDone w mid (i + 1) (last + n) x₀ q₀ x′ q″ t′
     more w r = record {
       going = aside w x′ q′ t′ last c (k .going) (λ j a z e. omega (arith, in-end));
       low = λ z. omega (arith, old .low z, k .falls .low z);
@@ -88,7 +80,7 @@ module _ (t₀ mid end limit : ℕ) (x₀ q₀ : List ℕ) (i last : ℕ) (x q :
       high = λ z m. k .falls .high z (old .high z m);
       rest = λ j m o. getD-set-other q′ last j c 0 (omega (arith, s .order)) ∙ k .falls .queue j o ∙ old .rest j (omega arith) o;
       done = λ j h d m o u v. done j h d m o u v (ℕ-discrete j i);
-      late = λ j m o. late j m o (ℕ-discrete j last) (decLe limit (at x₀ c₀ + (diagonalKey - straightKey)));
+      late = λ j m o. late j m o (ℕ-discrete j last);
       listed = λ j m o v. listed j m o v (ℕ-discrete j i);
     }
       where
@@ -114,43 +106,52 @@ module _ (t₀ mid end limit : ℕ) (x₀ q₀ : List ℕ) (i last : ℕ) (x q :
         stay j m = getD-set-other q′ last j c 0 (omega arith) ∙ k .falls .queue j (omega (arith, in-end))
 
         done : (j h d : ℕ) → mid ≤ j → j < i + 1 → WorkStep (w .floor) h (getD q₀ j 0) d
-            → at x₀ (getD q₀ j 0) + cost h < w .limit + straightKey → Dec (j ≡ i) → at x′ d ≤ at x₀ (getD q₀ j 0) + cost h
+            → stepped h (at x₀ (getD q₀ j 0)) < w .limit + span → Dec (j ≡ i) → at x′ d ≤ stepped h (at x₀ (getD q₀ j 0))
         done j h d m o u v (no e) = omega (arith, old .done j h d m (omega arith) u v, k .falls .low d)
         done j h d m o u v (yes e) =
             let f : getD q₀ j 0 ≡ c = ap (λ (z : ℕ). getD q₀ z 0) e ∙ sym (this-same w r) in
             let g : at x₀ (getD q₀ j 0) ≡ at x c = ap (λ (z : ℕ). at x₀ (getD q₀ z 0)) e ∙ sym (this-keep w r) in
+            let s = ap (stepped h) g in
             omega (arith, k .done h d (subst (λ (z : ℕ). WorkStep (w .floor) h z d) f u) (omega arith))
 
-        late : (j : ℕ) → mid ≤ j → j < last + n → Dec (j ≡ last) → Dec (limit ≤ at x₀ c₀ + (diagonalKey - straightKey))
-            → Late x₀ (w .limit + straightKey) (getD q″ j 0)
-        late j m o (yes e) (yes z) =
-            let t = this-cell w r in
-            subst (Late x₀ (w .limit + straightKey)) (sym (ap (λ (y : ℕ). getD q″ y 0) e ∙ here))
-            (record { free = t .free; after = omega (arith, r .ends .same); near = omega (arith, t .near, r .ends .same) })
-        late j m o (yes e) (no z) = absurd (omega (arith, bit .early (omega (arith, value))))
-        late j m o (no e) z =
-            let k = bit-bound (at x c) limit n bit in
-            subst (Late x₀ (w .limit + straightKey)) (sym (stay j (omega arith))) (old .late j m (omega arith))
+        bit₀ : n ≡ lateOf (at x₀ c₀)
+        bit₀ = bit ∙ ap lateOf value
 
-        listed : (j : ℕ) → mid ≤ j → j < i + 1 → w .limit ≤ at x₀ (getD q₀ j 0) + (diagonalKey - straightKey) → Dec (j ≡ i)
-            → Listed q″ mid (last + n) (getD q₀ j 0)
+        one : 0 < n → lateOf (at x₀ c₀) ≡ 1
+        one o = omega (arith, bit₀, late-bit (at x₀ c₀))
+
+        late : (j : ℕ) → mid ≤ j → j < last + n → Dec (j ≡ last) → Late x₀ (w .limit + span) (getD q″ j 0)
+        late j m o (yes e) =
+            let t = this-cell w r in
+            let far = late-far (at x₀ c₀) (w .limit) (r .ends .whole) (t .after) (one (omega arith)) in
+            subst (Late x₀ (w .limit + span)) (sym (ap (λ (y : ℕ). getD q″ y 0) e ∙ here))
+            (record { free = t .free; after = far; near = omega (arith, t .near) })
+        late j m o (no e) =
+            let before : j < last = omega (arith, bit₀, late-bit (at x₀ c₀)) in
+            subst (Late x₀ (w .limit + span)) (sym (stay j before)) (old .late j m before)
+
+        listed : (j : ℕ) → mid ≤ j → j < i + 1 → lateOf (at x₀ (getD q₀ j 0)) ≡ 1 → Dec (j ≡ i) → Listed q″ mid (last + n) (getD q₀ j 0)
         listed j m o v (no e) =
             let f = old .listed j m (omega arith) v in
             record { index = f .index; here = stay (f .index) (f .before) ∙ f .here; after = f .after; before = omega (arith, f .before) }
         listed j m o v (yes e) =
             let g : at x₀ (getD q₀ j 0) ≡ at x₀ c₀ = ap (λ (z : ℕ). at x₀ (getD q₀ z 0)) e in
-            let one = bit .late (omega (arith, value, r .ends .same)) in
-            record { index = last; here = here ∙ ap (λ (z : ℕ). getD q₀ z 0) (sym e); after = s .order .0; before = omega arith }
+            record {
+              index = last;
+              here = here ∙ ap (λ (z : ℕ). getD q₀ z 0) (sym e);
+              after = s .order .0;
+              before = omega (arith, bit₀, ap lateOf g);
+            }
 
-    pub these-more : These t₀ mid end limit x₀ q₀ (i + 1) (last + n) x′ q″ t′
+    pub these-more : These t₀ mid end x₀ q₀ (i + 1) (last + n) x′ q″ t′
     these-more = record {
-      order = (omega (arith, s .order), omega (arith, s .order, bit-bound (at x c) limit n bit), omega arith);
+      order = (omega (arith, s .order), omega (arith, s .order, bit, late-bit (at x c)), omega arith);
       keeps = more;
     }
 
-pub these-all : (t₀ mid end limit : ℕ) (x₀ q₀ : List ℕ) (i last : ℕ) (x q : List ℕ) (t : ℕ) → These t₀ mid end limit x₀ q₀ i last x q t → end ≤ i
-    → ThisLeft t₀ mid end limit x₀ q₀ x q t last
-these-all t₀ mid end limit x₀ q₀ i last x q t s b = record {
+pub these-all : (t₀ mid end : ℕ) (x₀ q₀ : List ℕ) (i last : ℕ) (x q : List ℕ) (t : ℕ) → These t₀ mid end x₀ q₀ i last x q t → end ≤ i
+    → ThisLeft t₀ mid end x₀ q₀ x q t last
+these-all t₀ mid end x₀ q₀ i last x q t s b = record {
   order = (s .order .0, omega (arith, s .order));
   keeps = λ w r. let e : i ≡ end = omega (arith, s .order) in subst (λ (z : ℕ). ThisDone w mid z last x₀ q₀ x q t) e (s .keeps w r);
 }

@@ -2,11 +2,15 @@
 -- two straight ones.
 -- Assumes nothing.
 use mathlib.Core.Path.{_≡_, refl, sym, subst}
-use Prim.Native.Nat.{ℕ, _+_, _%_, _≤_, _<_}
+use mathlib.Core.Logic.{_⊎_, inl, inr}
+use mathlib.Core.List.{List}
+use Prim.Native.Nat.{ℕ, _+_, _*_, _/_, _%_, _≤_, _<_}
 use native.Mathlib.Omega.{arith}
+use lib.ListN.{length}
 use Rattle.floor.specs.declared.Change.{Change}
 use Rattle.floor.specs.Heading.{changes, changeOf}
 use Rattle.floor.proofs.Grid.{eight}
+use Rattle.waves.specs.Work.{Inside, target}
 
 -- the changes of a heading and of its opposite
 pub record Turned (h : ℕ) : Type 0 where
@@ -28,13 +32,24 @@ turned =
     (record { narrow = omega arith; flat = omega arith; columns = refl; rows = refl })
     (record { narrow = omega arith; flat = omega arith; columns = refl; rows = refl })
 
--- a change that was read for a heading is small
-pub record Small (change : Change) : Type 0 where
+-- a change that was read for a heading
+pub record ReadOf (change : Change) (h : ℕ) : Type 0 where
   pub narrow : change .column ≤ 2
   pub flat : change .row ≤ 2
+  pub columns : change .column ≡ changeOf h .column
+  pub rows : change .row ≡ changeOf h .row
 
-pub small-change : (change : Change) (h : ℕ) → h < 8 → change ≡ changeOf h → Small change
-small-change change h b e = let t = turned h b in subst Small (sym e) (record { narrow = t .narrow; flat = t .flat })
+pub read-of : (change : Change) (h : ℕ) → h < 8 → change ≡ changeOf h → ReadOf change h
+read-of change h b e = let t = turned h b in
+    subst (λ (z : Change). ReadOf z h) (sym e) (record { narrow = t .narrow; flat = t .flat; columns = refl; rows = refl })
+
+-- a heading leads from a place that is not on the border to one of the array
+pub in-work : (x : List ℕ) (p h : ℕ) → h < 8 → Inside x p → target p h < length x
+in-work x p h b inside = omega (arith, inside, turned h b)
+
+-- first and second are the straight headings before and after the diagonal heading h, or after and before it
+abbrev pub Flank : (h first second : ℕ) → Type 0
+Flank h first second = ((first ≡ 2 * (h / 2)) × (second ≡ 2 * ((h / 2 + 1) % 4))) ⊎ ((first ≡ 2 * ((h / 2 + 1) % 4)) × (second ≡ 2 * (h / 2)))
 
 -- the two straight headings of a diagonal one: first along the row, then along the column
 pub record Corner (h : ℕ) : Type 0 where
@@ -42,6 +57,7 @@ pub record Corner (h : ℕ) : Type 0 where
   pub second : ℕ
   pub known : (first < 8) × (second < 8)
   pub even : (first % 2 ≡ 0) × (second % 2 ≡ 0)
+  pub flank : Flank h first second
   pub along : (changeOf first .row ≡ 1) × (changeOf first .column ≡ changeOf h .column)
   pub down : (changeOf second .row ≡ changeOf h .row) × (changeOf second .column ≡ 1)
 
@@ -56,10 +72,14 @@ unfolding changeOf changes
 shape =
     eight Shape
     (upright refl refl)
-    (slanted refl (record { first = 2; second = 0; known = omega arith; even = (refl, refl); along = (refl, refl); down = (refl, refl) }))
+    (slanted refl
+    (record { first = 2; second = 0; known = omega arith; even = (refl, refl); flank = inr (refl, refl); along = (refl, refl); down = (refl, refl) }))
     (level refl refl)
-    (slanted refl (record { first = 2; second = 4; known = omega arith; even = (refl, refl); along = (refl, refl); down = (refl, refl) }))
+    (slanted refl
+    (record { first = 2; second = 4; known = omega arith; even = (refl, refl); flank = inl (refl, refl); along = (refl, refl); down = (refl, refl) }))
     (upright refl refl)
-    (slanted refl (record { first = 6; second = 4; known = omega arith; even = (refl, refl); along = (refl, refl); down = (refl, refl) }))
+    (slanted refl
+    (record { first = 6; second = 4; known = omega arith; even = (refl, refl); flank = inr (refl, refl); along = (refl, refl); down = (refl, refl) }))
     (level refl refl)
-    (slanted refl (record { first = 6; second = 0; known = omega arith; even = (refl, refl); along = (refl, refl); down = (refl, refl) }))
+    (slanted refl
+    (record { first = 6; second = 0; known = omega arith; even = (refl, refl); flank = inl (refl, refl); along = (refl, refl); down = (refl, refl) }))

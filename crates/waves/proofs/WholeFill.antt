@@ -12,14 +12,13 @@ use native.Mathlib.Decide.{decLe}
 use lib.Seq.{getD-set-same}
 use lib.Dec.{T as Holds}
 use borrow.Author.Tests.{lt-ltb}
-use Rattle.lengths.proofs.Keys.{straightKey}
 use Rattle.floor.specs.Floor.{Map, open?, cells}
 use Rattle.floor.specs.Inner.{openPast}
 use Rattle.floor.specs.Step.{stepsOf}
 use Rattle.floor.specs.Way.{Only}
 use Rattle.floor.proofs.Leads.{open-column, open-row, floor, Past, past}
 use Rattle.entries.specs.Filled.{Filled}
-use Rattle.waves.specs.Work.{unreached, stride, largest, at, spot, Inside}
+use Rattle.waves.specs.Work.{unreached, stride, largest, span, at, spot, Inside}
 use Rattle.waves.specs.Solved.{Loaded, Solved}
 use Rattle.waves.specs.Load.{numberOf, loaded, Prefix}
 use Rattle.waves.specs.Store.{entryOf, Storable, Stored}
@@ -62,7 +61,7 @@ module _ (m : Map) (goal entries : ℕ) (a : Fillable m goal entries) (x : List 
   g = spot (goal % m .width) (goal / m .width)
 
   abbrev x′ : List ℕ
-  x′ = set x g straightKey
+  x′ = set x g span
 
   gc : goal % m .width < m .width
   gc = mod-lt goal (a .sound .some-wide)
@@ -79,7 +78,7 @@ module _ (m : Map) (goal entries : ℕ) (a : Fillable m goal entries) (x : List 
   -- a cell with a number is open
   behind : (z : ℕ) → 0 < at x′ z → Past m (z % stride) (z / stride)
   unfolding loaded
-  behind = each x g straightKey goal-on (λ z v. 0 < v → Past m (z % stride) (z / stride)) (λ o. at-goal) (λ z e o. on z o)
+  behind = each x g span goal-on (λ z v. 0 < v → Past m (z % stride) (z / stride)) (λ o. at-goal) (λ z e o. on z o)
     where
       on : (z : ℕ) → 0 < at x z → Past m (z % stride) (z / stride)
       on z o =
@@ -100,15 +99,15 @@ module _ (m : Map) (goal entries : ℕ) (a : Fillable m goal entries) (x : List 
       let c = open-column m _ _ (q .«open») in
       let r = open-row m _ _ (q .«open») in
       let n = a .sound .wide in
-      record { low = omega (arith, q .column, q .row); high = omega (arith, q .column, q .row, p .tall, length-set x g straightKey) }
+      record { low = omega (arith, q .column, q .row); high = omega (arith, q .column, q .row, p .tall, length-set x g span) }
 
   pub ready : (q : List ℕ) → length x ≤ largest → length q ≡ length x + 1 → Loaded x′ q g
   unfolding loaded
   ready q few size = record {
-    few = omega (arith, length-set x g straightKey);
-    places = omega (arith, length-set x g straightKey);
-    start = getD-set-same x g straightKey 0 goal-on;
-    kinds = each x g straightKey goal-on (λ z v. (z ≡ g) ⊎ ((v ≡ 0) ⊎ (v ≡ unreached))) (inl refl) (λ z e. inr (kinds z));
+    few = omega (arith, length-set x g span);
+    places = omega (arith, length-set x g span);
+    start = getD-set-same x g span 0 goal-on;
+    kinds = each x g span goal-on (λ z v. (z ≡ g) ⊎ ((v ≡ 0) ⊎ (v ≡ unreached))) (inl refl) (λ z e. inr (kinds z));
     border = border;
   }
     where
@@ -118,7 +117,7 @@ module _ (m : Map) (goal entries : ℕ) (a : Fillable m goal entries) (x : List 
   mapped : Mapped (floor m) x′
   mapped = record {
     narrow = a .sound .wide;
-    free = λ c r o. each x g straightKey goal-on (λ z v. z ≡ spot c r → 0 < v) (λ e. omega arith) (λ z d e. numbered c r o z e) (spot c r) refl;
+    free = λ c r o. each x g span goal-on (λ z v. z ≡ spot c r → 0 < v) (λ e. omega arith) (λ z d e. numbered c r o z e) (spot c r) refl;
     column = λ z o. z % stride - 1;
     row = λ z o. z / stride - 1;
     opened = λ z o. behind z o .«open»;
@@ -136,7 +135,7 @@ module _ (m : Map) (goal entries : ℕ) (a : Fillable m goal entries) (x : List 
     storable = record {
       wide = a .sound .wide;
       high = a .sound .high;
-      tall = omega (arith, p .tall, s .cells, length-set x g straightKey);
+      tall = omega (arith, p .tall, s .cells, length-set x g span);
       all = λ z. record { keyed = keyed x′ g x″ s z; below = s .below z };
     }
 

@@ -5,14 +5,13 @@ use mathlib.Core.Logic.{_⊎_}
 use mathlib.Core.List.{List}
 use Prim.Native.Nat.{ℕ, _+_, _≤_, _<_}
 use lib.ListN.{length}
-use Rattle.lengths.proofs.Keys.{straightKey}
-use Rattle.waves.specs.Work.{unreached, largest, highest, at, cost, Inside, WorkStep}
+use Rattle.waves.specs.Work.{unreached, largest, span, stepped, highest, at, Inside, WorkStep}
 
 -- a floor in the work array, with nothing reached but the goal
 pub record Loaded (x q : List ℕ) (goal : ℕ) : Type 0 where
   pub few : length x ≤ largest
   pub places : length q ≡ length x + 1
-  pub start : at x goal ≡ straightKey
+  pub start : at x goal ≡ span
   pub kinds : (z : ℕ) → (z ≡ goal) ⊎ ((at x z ≡ 0) ⊎ (at x z ≡ unreached))
   pub border : (z : ℕ) → 0 < at x z → Inside x z
 
@@ -22,7 +21,7 @@ pub record Found (floor x : List ℕ) (z v : ℕ) : Type 0 where
   pub cell : ℕ
   pub step : WorkStep floor heading cell z
   pub found : at x cell < unreached
-  pub sum : v ≡ at x cell + cost heading
+  pub sum : v ≡ stepped heading (at x cell)
 
 -- after the last wave: every reached cell but the goal is a step from another, and no step would lower a cell
 pub record Solved (floor : List ℕ) (goal : ℕ) (x : List ℕ) : Type 0 where
@@ -30,7 +29,7 @@ pub record Solved (floor : List ℕ) (goal : ℕ) (x : List ℕ) : Type 0 where
   pub kinds : (z : ℕ) → at x z ≤ unreached
   pub free : (z : ℕ) → 0 < at floor z → 0 < at x z
   pub shut : (z : ℕ) → at floor z ≡ 0 → at x z ≡ 0
-  pub start : at x goal ≡ straightKey
+  pub start : at x goal ≡ span
   pub below : (z : ℕ) → at x z < unreached → at x z < highest
   pub support : (z : ℕ) → 0 < at x z → at x z < unreached → (z ≡ goal) ⊎ Found floor x z (at x z)
-  pub relaxed : (h a b : ℕ) → WorkStep floor h a b → at x a < unreached → at x b ≤ at x a + cost h
+  pub relaxed : (h a b : ℕ) → WorkStep floor h a b → at x a < unreached → at x b ≤ stepped h (at x a)

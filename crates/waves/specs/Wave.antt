@@ -1,4 +1,4 @@
--- What the waves keep. A wave is one straight step wide: its cells are settled before its steps are taken, and what they reach lies in the
+-- What the waves keep. A wave is one straight step span: its cells are settled before its steps are taken, and what they reach lies in the
 -- next wave, whatever the order.
 -- Assumes nothing.
 use mathlib.Core.Path.{_≡_}
@@ -6,8 +6,7 @@ use mathlib.Core.Logic.{_⊎_}
 use mathlib.Core.List.{List}
 use Prim.Native.Nat.{ℕ, _+_, _≤_, _<_}
 use lib.ListN.{getD, length}
-use Rattle.lengths.proofs.Keys.{straightKey}
-use Rattle.waves.specs.Work.{unreached, at, cost, Inside, WorkStep, Room}
+use Rattle.waves.specs.Work.{unreached, span, stepped, at, Inside, WorkStep, Room}
 
 -- a wave: the floor as it was loaded, and the goal's place; where the next wave's cells begin in the queue; and the number at which this
 -- wave ends
@@ -23,7 +22,7 @@ pub record Support (w : Wave) (x : List ℕ) (z v : ℕ) : Type 0 where
   pub cell : ℕ
   pub step : WorkStep (w .floor) heading cell z
   pub near : at x cell < w .limit
-  pub sum : v ≡ at x cell + cost heading
+  pub sum : v ≡ stepped heading (at x cell)
 
 -- z stands in the queue, from low on and before high
 pub record Listed (q : List ℕ) (low high z : ℕ) : Type 0 where
@@ -58,13 +57,13 @@ pub record Going (w : Wave) (x q : List ℕ) (t : ℕ) : Type 0 where
   pub free : (z : ℕ) → 0 < at (w .floor) z → 0 < at x z
   pub shut : (z : ℕ) → at (w .floor) z ≡ 0 → at x z ≡ 0
   -- the goal has length (0, 0)
-  pub start : at x (w .goal) ≡ straightKey
+  pub start : at x (w .goal) ≡ span
   -- everything reached lies below the next wave's end
-  pub below : (z : ℕ) → at x z < unreached → at x z < w .limit + straightKey
+  pub below : (z : ℕ) → at x z < unreached → at x z < w .limit + span
   -- every reached cell but the goal has a settled neighbour whose number and the step make its own
   pub support : (z : ℕ) → 0 < at x z → at x z < unreached → (z ≡ w .goal) ⊎ Support w x z (at x z)
   -- no step that ends below this wave's end would lower a cell
-  pub relaxed : (h a b : ℕ) → WorkStep (w .floor) h a b → at x a + cost h < w .limit → at x b ≤ at x a + cost h
+  pub relaxed : (h a b : ℕ) → WorkStep (w .floor) h a b → stepped h (at x a) < w .limit → at x b ≤ stepped h (at x a)
   -- from the wave's end on, the queue has the cells of the next wave and no others
   pub listed : (z : ℕ) → w .limit ≤ at x z → at x z < unreached → Listed q (w .end) t z
   pub queued : (i : ℕ) → w .end ≤ i → i < t → Next w x (getD q i 0)

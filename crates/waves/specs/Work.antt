@@ -1,10 +1,11 @@
 -- The work array: a number for each cell of the floor and of a border of blocked cells around it. 0: blocked, or off the floor. `unreached`:
--- open, and not reached. Else one straight step more than the key of the length found. Beside it a queue of the cells that were reached.
--- In all files x is a work array, q a queue and t its end.
+-- open, and not reached. Else the length found: with one straight step more its key is 13860 q + r, r below 13860, and the number is
+-- 16384 q + r. So a number's quotient by 16384 is its wave and its remainder is its place in the wave, and no remainder is above 13859.
+-- Beside it a queue of the cells that were reached. In all files x is a work array, q a queue and t its end.
 -- Assumes nothing.
 use mathlib.Core.Path.{_≡_}
 use mathlib.Core.List.{List, [], _∷_}
-use Prim.Native.Nat.{ℕ, _+_, _-_, _*_, _/_, _%_, _≤_, _<_}
+use Prim.Native.Nat.{ℕ, zero, suc, _+_, _-_, _*_, _/_, _%_, _≤_, _<_}
 use lib.ListN.{getD, length}
 use Rattle.lengths.proofs.Keys.{straightKey, diagonalKey}
 use Rattle.floor.specs.Heading.{changeOf}
@@ -21,9 +22,34 @@ stride = 130
 abbrev pub largest : ℕ
 largest = stride * stride
 
+-- how far apart waves are, which is what a straight step adds to a number
+abbrev pub span : ℕ
+span = 16384
+
+-- what is left out between the last number of a wave and the first one of the next
+abbrev pub gap : ℕ
+gap = span - straightKey
+
+-- by how much a diagonal step is longer than a straight one
+abbrev pub extra : ℕ
+extra = diagonalKey - straightKey
+
+-- 1 for a late cell, whose diagonal steps end past the next wave: its remainder and the extra are 13860 or more. Else 0
+unfoldable pub lateOf : ℕ → ℕ
+lateOf v = (v % span + extra + gap) / span
+
+-- what a straight step, with parity 0, and a diagonal one make of the number v: one wave more, and the extra, and from a late cell the gap
+abbrev pub steppedBy : ℕ → ℕ → ℕ
+steppedBy zero v = v + span
+steppedBy (suc b) v = v + (span + extra + gap * lateOf v)
+
+-- what a step with heading h makes of it
+unfoldable pub stepped : ℕ → ℕ → ℕ
+stepped h v = steppedBy (h % 2) v
+
 -- a bound of all numbers that are reached: no wave is empty, so there are no more waves than cells
 abbrev pub highest : ℕ
-highest = straightKey * (largest + 2)
+highest = span * (largest + 2)
 
 -- the number at a place
 abbrev pub at : List ℕ → ℕ → ℕ
@@ -32,10 +58,6 @@ at x a = getD x a 0
 -- the place of the cell in column c and row r
 abbrev pub spot : ℕ → ℕ → ℕ
 spot c r = (r + 1) * stride + c + 1
-
--- what a step adds to a number: the key of a straight or a diagonal step
-abbrev pub cost : ℕ → ℕ
-cost h = straightKey + (diagonalKey - straightKey) * (h % 2)
 
 -- a place that is not on the border
 pub record Inside (x : List ℕ) (a : ℕ) : Type 0 where

@@ -1,7 +1,9 @@
 // Filling a length table by waves, from the map's bytes to the table's entries.
 // The work array has a number for each cell of the floor and of a border of blocked cells around it: the cell in column c and row r stands
-// at (r + 1) * 130 + c + 1. 0: blocked, or off the floor. UNREACHED: open, and not reached. Else 13860 * (straight + 1) + 19601 * diagonal
-// of the length found: lengths are ordered by this number. A wave is one straight step wide: when it begins, all below its end is settled.
+// at (r + 1) * 130 + c + 1. 0: blocked, or off the floor. UNREACHED: open, and not reached. Else the length found: lengths are ordered by
+// their keys, 13860 * straight + 19601 * diagonal; with one straight step more a key is 13860 * q + r, r < 13860, and the number is
+// 16384 * q + r. So number / 16384 is the wave that reaches the cell, and to take a number apart needs no division but by powers of two.
+// A wave is one straight step wide: when it begins, all below its end is settled.
 ghost use mathlib.Core.Path.{_≡_};
 ghost use Prim.Native.Nat.{_*_, _≤_};
 ghost use lib.ListN.{length};
@@ -20,10 +22,16 @@ mod storing;
 // The number of an open cell that is not reached.
 pub const UNREACHED: u32 = 2147483648;
 
-// What a straight and a diagonal step add to a number.
-pub const STRAIGHT: u32 = 13860;
+// What a straight step adds to a number: one wave.
+pub const STRAIGHT: u32 = 16384;
 
-pub const DIAGONAL: u32 = 19601;
+// What a diagonal step adds, which weighs 19601 - 13860 = 5741 more than a straight one: 16384 + 5741 out of an early cell. Out of a late one,
+// whose remainder is 13860 - 5741 or more, the remainder would be 13860 or more: it has 13860 less, and the number one wave more.
+pub const EARLY: u32 = 22125;
+
+pub const LATE: u32 = 24649;
+
+pub const LATE_FROM: u32 = 8119;
 
 // How far apart the rows of the work array are: 128 cells and the border.
 pub const STRIDE: usize = 130;

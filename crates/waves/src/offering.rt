@@ -1,9 +1,9 @@
 // Offers: a step out of a cell offers the cell that it leads to a number, its own and what the step adds.
 ghost use mathlib.Core.Path.{_≡_};
-ghost use Prim.Native.Nat.{_-_, _/_, _%_, _<_, _≤_, min};
+ghost use Prim.Native.Nat.{_+_, _-_, _/_, _<_, _≤_, min};
 ghost use lib.ListN.{length};
-ghost use Rattle.waves.specs.Work.{unreached, Inside, Room};
-ghost use Rattle.waves.specs.Taken.{OfferMade, Past, StepsLeft};
+ghost use Rattle.waves.specs.Work.{unreached, stride, largest, Inside, target, Room};
+ghost use Rattle.waves.specs.Taken.{OfferMade, Masks, Sides, Past, StepsLeft};
 use crate::STRIDE;
 use crate::UNREACHED;
 
@@ -22,14 +22,6 @@ fn newly(before: u32, after: u32) -> usize
     (before / UNREACHED - after / UNREACHED) as usize
 }
 
-// What is offered past the two cells beside a diagonal step: too much to count if one is blocked.
-fn past(number: u32, side: u32, other: u32) -> u32
-    requires { ⌜ number < unreached ⌝ }
-    ensures { λ r. ⌜ Past number side other r ⌝ }
-{
-    number + (1 - lesser(lesser(side, other), 1)) * UNREACHED
-}
-
 // Offers a place a number; a cell that was not reached is put behind the queue.
 fn offer(work: &mut [u32], queue: &mut [u16], tail: usize, place: usize, number: u32) -> usize
     requires { ⌜ place < length (now work) ⌝ }
@@ -43,52 +35,93 @@ fn offer(work: &mut [u32], queue: &mut [u16], tail: usize, place: usize, number:
     tail + newly(before, after)
 }
 
-// The step with this heading: offers the number to the cell that it leads to, if the step is permitted.
-fn step(
-    work: &mut [u32],
-    queue: &mut [u16],
-    tail: usize,
-    from: usize,
-    heading: usize,
-    number: u32,
-) -> usize
-    requires { ⌜ Inside (now work) from ⌝ }
+// Where a heading leads from a place.
+fn place_of(from: usize, heading: usize) -> usize
+    requires { ⌜ (stride + 1 ≤ from) × (from < largest) ⌝ }
     requires { ⌜ heading < 8 ⌝ }
-    requires { ⌜ Room (now work) (now queue) tail ⌝ }
-    requires { ⌜ number < unreached ⌝ }
-    ensures { λ r. ⌜ StepsLeft (λ h. h ≡ heading) from heading number tail (now (work .entry)) (now (queue .entry)) (now (work .exit)) (now (queue .exit)) r ⌝ }
+    ensures { λ r. ⌜ r ≡ target from heading ⌝ }
 {
     let change = floor::steps::change_of(heading);
-    let place = from + change.row * STRIDE + change.column - (STRIDE + 1);
-    if heading % 2 == 0 {
-        // the remainder is the number itself: it tells the compiler that a straight step's number always counts
-        return offer(work, queue, tail, place, number % UNREACHED);
-    }
-    let side = from + change.row * STRIDE - STRIDE;
-    let other = from + change.column - 1;
-    let offered = past(number, work[side], work[other]);
-    offer(work, queue, tail, place, offered)
+    from + change.row * STRIDE + change.column - (STRIDE + 1)
 }
 
-// The straight steps out of a cell, with the headings 0, 2, 4, 6, or the diagonal ones, with 1, 3, 5, 7.
-pub fn steps(
+// The straight steps out of a cell, with the headings 0, 2, 4, 6.
+pub fn straight_steps(
     work: &mut [u32],
     queue: &mut [u16],
     tail: usize,
     from: usize,
-    first: usize,
     number: u32,
 ) -> usize
     requires { ⌜ Inside (now work) from ⌝ }
-    requires { ⌜ first < 2 ⌝ }
     requires { ⌜ Room (now work) (now queue) tail ⌝ }
     requires { ⌜ number < unreached ⌝ }
-    ensures { λ r. ⌜ StepsLeft (λ h. h % 2 ≡ first) from first number tail (now (work .entry)) (now (queue .entry)) (now (work .exit)) (now (queue .exit)) r ⌝ }
+    ensures { λ r. ⌜ StepsLeft 0 from number tail (now (work .entry)) (now (queue .entry)) (now (work .exit)) (now (queue .exit)) r ⌝ }
 {
     let mut end = tail;
-    let mut heading = first;
+    let mut heading: usize = 0;
     while heading < 8 {
-        end = step(work, queue, end, from, heading, number);
+        // the remainder is the number itself: it tells the compiler that a straight step's number always counts
+        end = offer(
+            work,
+            queue,
+            end,
+            place_of(from, heading),
+            number % UNREACHED,
+        );
+        heading += 2;
+    }
+    end
+}
+
+// The mask of a cell with this number: all ones if the cell is blocked, else 0.
+fn mask_of(number: u32) -> u32
+    ensures { λ r. ⌜ Masks number r ⌝ }
+{
+    if number == 0 { 4294967295 } else { 0 }
+}
+
+// The masks of the four cells that the straight headings lead to.
+fn sides_of(work: &[u32], from: usize) -> [u32; 4]
+    requires { ⌜ Inside (now work) from ⌝ }
+    requires { ⌜ length (now work) ≤ largest ⌝ }
+    ensures { λ r. ⌜ Sides (now (work .entry)) from 4 r ⌝ }
+{
+    let mut masks = [0u32; 4];
+    let mut i: usize = 0;
+    while i < 4 {
+        masks[i] = mask_of(work[place_of(from, 2 * i)]);
+        i += 1;
+    }
+    masks
+}
+
+// What is offered past two side cells with these masks: too much to count if one is blocked.
+fn past(number: u32, side: u32, other: u32) -> u32
+    ensures { λ r. ⌜ Past number side other r ⌝ }
+{
+    number | (side | other)
+}
+
+// The diagonal steps out of a cell, with the headings 1, 3, 5, 7. A blocked cell stays blocked and an open one open, so that the side cells
+// are read once.
+pub fn diagonal_steps(
+    work: &mut [u32],
+    queue: &mut [u16],
+    tail: usize,
+    from: usize,
+    number: u32,
+) -> usize
+    requires { ⌜ Inside (now work) from ⌝ }
+    requires { ⌜ Room (now work) (now queue) tail ⌝ }
+    ensures { λ r. ⌜ StepsLeft 1 from number tail (now (work .entry)) (now (queue .entry)) (now (work .exit)) (now (queue .exit)) r ⌝ }
+{
+    let masks = sides_of(work, from);
+    let mut end = tail;
+    let mut heading: usize = 1;
+    while heading < 8 {
+        let offered = past(number, masks[heading / 2], masks[(heading / 2 + 1) % 4]);
+        end = offer(work, queue, end, place_of(from, heading), offered);
         heading += 2;
     }
     end

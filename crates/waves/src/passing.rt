@@ -1,55 +1,36 @@
 // Wave after wave: the late cells of the wave before take their diagonal steps, then this wave's cells take theirs.
+ghost use mathlib.Core.Path.{_≡_};
 ghost use Prim.Native.Nat.{_<_, _≤_};
-ghost use Rattle.waves.specs.Work.{highest, at, Inside, Room};
-ghost use Rattle.waves.specs.Taken.{EarlyLeft, TakenLeft, LateBit};
+ghost use Rattle.waves.specs.Work.{lateOf, highest, at, Inside, Room};
+ghost use Rattle.waves.specs.Taken.{TakenLeft};
 ghost use Rattle.waves.specs.Passes.{LateBegun, LateLeft, ThisBegun, ThisLeft};
 ghost use Rattle.waves.specs.Solved.{Loaded, Solved};
-use crate::DIAGONAL;
+use crate::EARLY;
+use crate::LATE;
+use crate::LATE_FROM;
 use crate::STRAIGHT;
 use crate::offering;
 
-// The diagonal steps out of a cell, which offer this number, if they end in the next wave.
-fn early_steps(
-    work: &mut [u32],
-    queue: &mut [u16],
-    tail: usize,
-    from: usize,
-    number: u32,
-    limit: u32,
-) -> usize
-    requires { ⌜ Inside (now work) from ⌝ }
-    requires { ⌜ limit ≤ highest ⌝ }
-    requires { ⌜ Room (now work) (now queue) tail ⌝ }
-    ensures { λ r. ⌜ EarlyLeft from number tail limit (now (work .entry)) (now (queue .entry)) (now (work .exit)) (now (queue .exit)) r ⌝ }
+// 1 for a late cell, whose diagonal steps end past the next wave, else 0.
+fn late_of(number: u32) -> usize
+    ensures { λ r. ⌜ (r ≡ lateOf number) × (r ≤ 1) ⌝ }
 {
-    if limit + STRAIGHT <= number {
-        return tail;
-    }
-    offering::steps(work, queue, tail, from, 1, number)
+    if number % STRAIGHT < LATE_FROM { 0 } else { 1 }
 }
 
 // The straight steps out of a cell of this wave, and the diagonal ones if they end in the next wave.
-fn cell_steps(work: &mut [u32], queue: &mut [u16], tail: usize, from: usize, limit: u32) -> usize
+fn cell_steps(work: &mut [u32], queue: &mut [u16], tail: usize, from: usize, late: usize) -> usize
     requires { ⌜ Inside (now work) from ⌝ }
-    requires { ⌜ (limit ≤ highest) × (at (now work) from < highest) ⌝ }
+    requires { ⌜ (at (now work) from < highest) × (late ≡ lateOf (at (now work) from)) ⌝ }
     requires { ⌜ Room (now work) (now queue) tail ⌝ }
-    ensures { λ r. ⌜ TakenLeft from tail limit (now (work .entry)) (now (queue .entry)) (now (work .exit)) (now (queue .exit)) r ⌝ }
+    ensures { λ r. ⌜ TakenLeft from tail (now (work .entry)) (now (queue .entry)) (now (work .exit)) (now (queue .exit)) r ⌝ }
 {
     let number = work[from];
-    let end = offering::steps(work, queue, tail, from, 0, number + STRAIGHT);
-    early_steps(work, queue, end, from, number + DIAGONAL, limit)
-}
-
-// 1 for a cell of this wave whose diagonal steps end past the next wave.
-fn late_of(number: u32, limit: u32) -> usize
-    requires { ⌜ number < highest ⌝ }
-    ensures { λ r. ⌜ LateBit number limit r ⌝ }
-{
-    if number + (DIAGONAL - STRAIGHT) < limit {
-        0
-    } else {
-        1
+    let end = offering::straight_steps(work, queue, tail, from, number + STRAIGHT);
+    if late == 1 {
+        return end;
     }
+    offering::diagonal_steps(work, queue, end, from, number + EARLY)
 }
 
 // The diagonal steps out of the late cells queue[prev..last], which the wave before left.
@@ -62,7 +43,7 @@ fn late_steps(work: &mut [u32], queue: &mut [u16], tail: usize, prev: usize, las
     while i < last {
         let from = queue[i] as usize;
         let number = work[from];
-        end = offering::steps(work, queue, end, from, 1, number + DIAGONAL);
+        end = offering::diagonal_steps(work, queue, end, from, number + LATE);
         i += 1;
     }
     end
@@ -75,26 +56,19 @@ pub struct Reach {
 }
 
 // The steps out of this wave's cells queue[mid..end] into the next wave; the late cells among them are moved to queue[mid..last].
-fn this_steps(
-    work: &mut [u32],
-    queue: &mut [u16],
-    tail: usize,
-    mid: usize,
-    end: usize,
-    limit: u32,
-) -> Reach
-    requires { ⌜ ThisBegun (now work) (now queue) tail mid end limit ⌝ }
-    ensures { λ r. ⌜ ThisLeft tail mid end limit (now (work .entry)) (now (queue .entry)) (now (work .exit)) (now (queue .exit)) (r .tail) (r .last) ⌝ }
+fn this_steps(work: &mut [u32], queue: &mut [u16], tail: usize, mid: usize, end: usize) -> Reach
+    requires { ⌜ ThisBegun (now work) (now queue) tail mid end ⌝ }
+    ensures { λ r. ⌜ ThisLeft tail mid end (now (work .entry)) (now (queue .entry)) (now (work .exit)) (now (queue .exit)) (r .tail) (r .last) ⌝ }
 {
     let mut t = tail;
     let mut last = mid;
     let mut i = mid;
     while i < end {
         let from = queue[i] as usize;
-        let number = work[from];
-        t = cell_steps(work, queue, t, from, limit);
+        let late = late_of(work[from]);
+        t = cell_steps(work, queue, t, from, late);
         queue[last] = from as u16;
-        last += late_of(number, limit);
+        last += late;
         i += 1;
     }
     Reach {
@@ -113,15 +87,13 @@ pub fn all_waves(work: &mut [u32], queue: &mut [u16], goal: usize)
     let mut last: usize = 0;
     let mut mid: usize = 0;
     let mut tail: usize = 1;
-    let mut limit = 2 * STRAIGHT;
     while mid < tail {
         let end = tail;
         let t = late_steps(work, queue, end, prev, last);
-        let reach = this_steps(work, queue, t, mid, end, limit);
+        let reach = this_steps(work, queue, t, mid, end);
         tail = reach.tail;
         last = reach.last;
         prev = mid;
         mid = end;
-        limit += STRAIGHT;
     }
 }

@@ -5,7 +5,7 @@ use Prim.Native.Nat.{_+_, _-_}
 use native.Mathlib.Omega.{arith}
 use borrow.Author.Needs.{needs}
 use lib.ListN.{length}
-use Rattle.waves.proofs.Kept.{Between}
+use Rattle.waves.proofs.Kept.{Waves}
 use Rattle.waves.proofs.FirstWave.{goal-inside, begin}
 use Rattle.waves.proofs.NextWave.{late-ready, this-ready, next}
 use Rattle.waves.proofs.LastWave.{solved}
@@ -13,11 +13,10 @@ use Rattle.waves.proofs.passing.all_waves.Statement.{statement}
 use Rattle.waves.proofs.passing.all_waves.Tie as tie
 
 abbrev Inv-loop : tie.InvT-loop
-Inv-loop work₀ queue₀ goal prev₀ last₀ mid₀ tail₀ limit₀ work queue prev last mid tail limit =
-    Between work₀ goal prev last mid tail limit work queue
+Inv-loop work₀ queue₀ goal prev₀ last₀ mid₀ tail₀ work queue prev last mid tail = Waves work₀ goal prev last mid tail work queue
 
 abbrev μ-loop : tie.MeasureT-loop
-μ-loop work₀ queue₀ goal prev₀ last₀ mid₀ tail₀ limit₀ work queue prev last mid tail limit = length work₀ + 1 - mid
+μ-loop work₀ queue₀ goal prev₀ last₀ mid₀ tail₀ work queue prev last mid tail = length work₀ + 1 - mid
 
 cast-queue : tie.Need-cast-queue Inv-loop μ-loop
 cast-queue c = omega (arith, goal-inside _ _ _ (c .before .before .pre), c .before .before .pre .few)
@@ -25,51 +24,45 @@ cast-queue c = omega (arith, goal-inside _ _ _ (c .before .before .pre), c .befo
 slice-write-queue : tie.Need-slice-write-queue Inv-loop μ-loop
 slice-write-queue c = search needs
 
-mul-limit : tie.Need-mul-limit Inv-loop μ-loop
-mul-limit c = search needs
-
 loop-holds : tie.Need-loop-holds Inv-loop μ-loop
 loop-holds c =
     let a = c .before .before .args in
-    begin (a .work .now) (a .queue .now) (a .goal) (c .before .before .pre)
+    record { limit = _; between = begin (a .work .now) (a .queue .now) (a .goal) (c .before .before .pre) }
 
 late-steps-requires : tie.Need-late-steps-requires Inv-loop μ-loop
 late-steps-requires c κs =
     let turn = c .before .before in
-    record { wave = _; ready = late-ready _ _ _ _ _ _ _ _ _ (turn .before .loop .inv) (turn .loop-test .taken) }
+    record { wave = _; ready = late-ready _ _ _ _ _ _ _ _ _ (turn .before .loop .inv .between) (turn .loop-test .taken) }
 
 this-steps-requires : tie.Need-this-steps-requires Inv-loop μ-loop
 this-steps-requires c κs =
     let turn = c .before .before .before .before .before .before .before .before .before in
     let l = c .before .before .before .before .before .before .late-steps .ensures in
-    record { wave = _; ready = this-ready _ _ _ _ _ _ _ _ _ (turn .before .loop .inv) (turn .loop-test .taken) _ _ _ l }
-
-add-limit : tie.Need-add-limit Inv-loop μ-loop
-add-limit c =
-    let turn = c .before .before .before .before .before .before .before .before .before .before .before .before .before .before in
-    let i = turn .before .loop .inv in
-    omega (arith, i .count, i .going .room, turn .loop-test .taken)
+    record { wave = _; ready = this-ready _ _ _ _ _ _ _ _ _ (turn .before .loop .inv .between) (turn .loop-test .taken) _ _ _ l }
 
 loop-less : tie.Need-loop-less Inv-loop μ-loop
 loop-less c =
     let turn = c .before .before .before .before .before .before .before .before .before .before .before .before .before .before in
-    let g = turn .before .loop .inv .going in
+    let g = turn .before .loop .inv .between .going in
     omega (arith, g .room, g .cells, turn .loop-test .taken)
 
 loop-again : tie.Need-loop-again Inv-loop μ-loop
 loop-again c =
     let turn = c .before .before .before .before .before .before .before .before .before .before .before .before .before .before in
     let l = c .before .before .before .before .before .before .before .before .before .before .before .late-steps .ensures in
-    next _ _ _ _ _ _ _ _ _ (turn .before .loop .inv) (turn .loop-test .taken) _ _ _ l _ _ _ _ (c .before .before .before .before .this-steps .ensures)
+    let n = c .before .before .before .before .this-steps .ensures in
+    record { limit = _; between = next _ _ _ _ _ _ _ _ _ (turn .before .loop .inv .between) (turn .loop-test .taken) _ _ _ l _ _ _ _ n }
 
 same-length : tie.Need-same-length Inv-loop μ-loop
-same-length c = c .before .loop .inv .going .cells
+same-length c = c .before .loop .inv .between .going .cells
 
 same-length-2 : tie.Need-same-length-2 Inv-loop μ-loop
-same-length-2 c = let g = c .before .loop .inv .going in omega (arith, g .cells, g .room .places, c .before .before .before .before .pre .places)
+same-length-2 c =
+    let g = c .before .loop .inv .between .going in
+    omega (arith, g .cells, g .room .places, c .before .before .before .before .pre .places)
 
 returns : tie.Need-returns Inv-loop μ-loop
-returns c = solved _ _ _ _ _ _ _ _ _ (c .before .loop .inv) (c .loop-test .left)
+returns c = solved _ _ _ _ _ _ _ _ _ (c .before .loop .inv .between) (c .loop-test .left)
 
 pub all-waves-spec : {M : Type 1} → statement M
 all-waves-spec =
@@ -79,11 +72,9 @@ all-waves-spec =
     μ-loop
     cast-queue
     slice-write-queue
-    mul-limit
     loop-holds
     late-steps-requires
     this-steps-requires
-    add-limit
     loop-less
     loop-again
     same-length

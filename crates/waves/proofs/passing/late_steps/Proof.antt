@@ -38,11 +38,11 @@ mul-number c = let k = safe (c .before) in omega (arith, k .inside, k .room)
 slice-read-number : tie.Need-slice-read-number Inv-loop μ-loop
 slice-read-number c = omega (arith, safe (c .before .before) .inside)
 
-add-steps : tie.Need-add-steps Inv-loop μ-loop
-add-steps c = omega (arith, safe (c .before .before .before .before) .small)
+add-diagonal-steps : tie.Need-add-diagonal-steps Inv-loop μ-loop
+add-diagonal-steps c = omega (arith, safe (c .before .before .before .before) .small)
 
-steps-requires : tie.Need-steps-requires Inv-loop μ-loop
-steps-requires c κs = let k = safe (c .before .before .before .before) in (k .inside, (omega arith, (k .room, omega (arith, k .small))))
+diagonal-steps-requires : tie.Need-diagonal-steps-requires Inv-loop μ-loop
+diagonal-steps-requires c κs = let k = safe (c .before .before .before .before) in (k .inside, k .room)
 
 add-i : tie.Need-add-i Inv-loop μ-loop
 add-i c = omega (arith, c .before .before .before .before .before .before .before .before .before .loop-test .taken)
@@ -53,7 +53,8 @@ loop-less c = omega (arith, c .before .before .before .before .before .before .b
 loop-again : tie.Need-loop-again Inv-loop μ-loop
 loop-again c =
     let turn = c .before .before .before .before .before .before .before .before .before in
-    lates-more _ _ _ _ _ _ _ _ _ (turn .before .loop .inv) (turn .loop-test .taken) _ _ _ _ refl (c .before .before .before .before .steps .ensures)
+    lates-more _ _ _ _ _ _ _ _ _ (turn .before .loop .inv) (turn .loop-test .taken) _ _ _ _ refl
+    (c .before .before .before .before .diagonal-steps .ensures)
 
 same-length : tie.Need-same-length Inv-loop μ-loop
 same-length c =
@@ -81,8 +82,8 @@ late-steps-spec =
     cast-from
     mul-number
     slice-read-number
-    add-steps
-    steps-requires
+    add-diagonal-steps
+    diagonal-steps-requires
     add-i
     loop-less
     loop-again
