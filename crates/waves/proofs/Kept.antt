@@ -3,12 +3,12 @@
 use mathlib.Core.Path.{_≡_}
 use mathlib.Core.Logic.{_⊎_}
 use mathlib.Core.List.{List}
-use Prim.Native.Nat.{ℕ, _+_, _*_, _%_, _≤_, _<_}
+use Prim.Native.Nat.{ℕ, _+_, _-_, _*_, _%_, _≤_, _<_}
 use lib.ListN.{getD, length}
 use Rattle.floor.specs.Floor.{Map}
-use Rattle.waves.specs.Work.{span, at, spot, Room}
+use Rattle.waves.specs.Work.{span, at, spot, target, Room}
 use Rattle.waves.specs.Wave.{Wave, Listed, Reached, Going}
-use Rattle.waves.specs.Taken.{Offers, Offered, This, Late}
+use Rattle.waves.specs.Taken.{Masks, Offers, Offered, This, Late}
 use Rattle.waves.specs.Passes.{LateReady, LateDone, ThisReady, ThisDone}
 use Rattle.waves.specs.Load.{Prefix}
 use Rattle.waves.specs.Store.{Stored}
@@ -20,6 +20,11 @@ pub record Headings (first p cand t : ℕ) (x₀ q₀ : List ℕ) (h : ℕ) (x q
   pub size : length x ≡ length x₀
   pub room : Room x q t′
   pub keeps : (w : Wave) → Offers w x₀ q₀ t p first cand → Offered w (λ j. (j % 2 ≡ first) × (j < h)) p cand x₀ q₀ x q t′
+
+-- the diagonal steps out of p below h were taken, and side is the mask of the cell that the straight heading before h leads to
+pub record Diagonals (p cand t : ℕ) (x₀ q₀ : List ℕ) (side h : ℕ) (x q : List ℕ) (t′ : ℕ) : Type 0 where
+  pub steps : Headings 1 p cand t x₀ q₀ h x q t′
+  pub behind : (w : Wave) → Offers w x₀ q₀ t p 1 cand → h < 8 → Masks (at (w .floor) (target p (h - 1))) side
 
 -- the late cells before i have taken their diagonal steps
 pub record Lates (t₀ prev last : ℕ) (x₀ q₀ : List ℕ) (i : ℕ) (x q : List ℕ) (t : ℕ) : Type 0 where

@@ -3,7 +3,7 @@
 use mathlib.Core.Path.{_≡_, refl, ap, ap₂, sym, subst, subst₂, _∙_}
 use mathlib.Core.Bool.{Bool, true, false, not}
 use mathlib.Core.List.{List}
-use Prim.Native.Nat.{ℕ, zero, suc, _+_, _-_, _*_, _/_, _%_, _≤_, _<_}
+use Prim.Native.Nat.{ℕ, zero, suc, _+_, _-_, _*_, _/_, _%_, _≤_, _<_, _^_}
 use native.Mathlib.Omega.{arith}
 use native.Mathlib.Nat.{mul-le-mul-right}
 use native.Mathlib.Decide.{decLe, ℕ-discrete}
@@ -12,6 +12,7 @@ use lib.Dec.{ltb, eqb}
 use borrow.Author.Tests.{lt-ltb, le-ltb}
 use Rattle.floor.specs.Floor.{Map, bytesPerRow, bit, blocked, open?, both}
 use Rattle.floor.specs.Inner.{openPast, Sound}
+use Rattle.floor.proofs.Grid.{eight}
 use Rattle.waves.specs.Work.{unreached, stride, at, spot}
 use Rattle.waves.specs.Load.{numberOf, loaded, Run, Prefix, Cleared, Tall}
 use Rattle.waves.proofs.Changed.{each}
@@ -20,6 +21,12 @@ use Rattle.waves.proofs.Kept.{CellsLoaded, BitsLoaded, RowsLoaded}
 -- the bit of the cell in column c and row r
 abbrev bitAt : Map → (c r : ℕ) → ℕ
 bitAt m c r = bit (c % 8) (getD (m .bytes) (r * bytesPerRow (m .width) + c / 8) 0)
+
+-- a bit of a byte's complement is 1 minus the byte's bit
+pub complement-bit : (b : ℕ) → b < 256 → (k : ℕ) → k < 8 → (255 - b) / 2 ^ k % 2 ≡ 1 - bit k b
+complement-bit b h =
+    eight (λ k. (255 - b) / 2 ^ k % 2 ≡ 1 - bit k b) (omega arith) (omega arith) (omega arith) (omega arith) (omega arith) (omega arith)
+    (omega arith) (omega arith)
 
 number-bit : (b : ℕ) → b < 2 → numberOf (not (eqb b 1)) ≡ (1 - b) * unreached
 number-bit zero h = refl
@@ -129,20 +136,20 @@ module _ (m : Map) (s : Sound m) where
 
   pub bits-more :
       (x₀ : List ℕ) (c r count i v n : ℕ) (x : List ℕ) → Run m r c count → BitsLoaded m x₀ c r count i x → i < count
-      → v ≡ bit i (getD (m .bytes) (r * bytesPerRow (m .width) + c / 8) 0) → n ≡ (1 - v) * unreached
+      → v ≡ 1 - bit i (getD (m .bytes) (r * bytesPerRow (m .width) + c / 8) 0) → n ≡ v * unreached
       → BitsLoaded m x₀ c r count (i + 1) (set x ((r + 1) * stride + c + 1 + i) n)
   bits-more x₀ c r count i v n x u b less e f =
       let place : spot (c + i) r ≡ (r + 1) * stride + c + 1 + i = omega arith in
       let next : c + i + 1 ≡ c + (i + 1) = omega arith in
       let remainder : (c + i) % 8 ≡ i = omega (arith, u .aligned, u .few) in
       let quotient : (c + i) / 8 ≡ c / 8 = omega (arith, u .aligned, u .few) in
-      let same : bitAt m (c + i) r ≡ v
-      = ap₂ (λ (j k : ℕ). bit j (getD (m .bytes) (r * bytesPerRow (m .width) + k) 0)) remainder quotient ∙ sym e in
+      let same : 1 - bitAt m (c + i) r ≡ v
+      = ap₂ (λ (j k : ℕ). 1 - bit j (getD (m .bytes) (r * bytesPerRow (m .width) + k) 0)) remainder quotient ∙ sym e in
       record {
         few = omega arith;
         cells =
             subst₂ (λ (j k : ℕ). CellsLoaded m x₀ k r (set x j n)) place next
-            (cells-more x₀ (c + i) r n x (u .row) (b .cells) (omega (arith, u .inside)) (f ∙ ap (λ (k : ℕ). (1 - k) * unreached) (sym same)));
+            (cells-more x₀ (c + i) r n x (u .row) (b .cells) (omega (arith, u .inside)) (f ∙ ap (λ (k : ℕ). k * unreached) (sym same)));
       }
 
 -- none of a byte's cells, and all of them

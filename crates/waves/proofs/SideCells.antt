@@ -1,54 +1,41 @@
--- The four cells beside a place, which a diagonal step goes past. They are read before any diagonal step is taken, which is as good as just
--- before each one: blocked cells stay blocked and open ones open.
+-- The four cells beside a place, which a diagonal step goes past. Each is read once, before one of the two steps past it, and that is as good
+-- as just before each: blocked cells stay blocked and open ones open.
 -- Assumes nothing.
 use mathlib.Core.Path.{_≡_, ap, sym, subst, _∙_}
 use mathlib.Core.Logic.{_⊎_, inl, inr}
 use mathlib.Core.List.{List}
-use Prim.Native.Nat.{ℕ, _+_, _*_, _/_, _%_, _≤_, _<_}
+use Prim.Native.Nat.{ℕ, _+_, _-_, _%_, _≤_, _<_}
 use native.Mathlib.Omega.{arith}
 use native.Mathlib.Decide.{ℕ-discrete}
-use lib.ListN.{getD, length, set, length-set}
-use Rattle.waves.specs.Work.{unreached, stride, at, target, beside, across}
+use Rattle.waves.specs.Work.{unreached, stride, at, target, beside, across, Room}
 use Rattle.waves.specs.Wave.{Wave, Going}
-use Rattle.waves.specs.Taken.{Masks, Sides, Past}
+use Rattle.waves.specs.Taken.{OfferMade, Masks, SideAfter, Past, Offers}
+use Rattle.waves.proofs.Kept.{Diagonals}
 use Rattle.waves.proofs.Turns.{Flank, Corner, Shape, level, upright, slanted, shape}
-use Rattle.waves.proofs.Changed.{each}
 use Rattle.waves.proofs.OneStep.{open-floor, Fits}
+use Rattle.waves.proofs.ManySteps.{headings-none, headings-more}
 
-pub sides-none : (x : List ℕ) (p : ℕ) (m : List ℕ) → length m ≡ 4 → Sides x p 0 m
-sides-none x p m e = record { four = e; each = λ i b. absurd (omega arith) }
+module _ (w : Wave) (x q : List ℕ) (t : ℕ) (g : Going w x q t) where
+  -- a mask that is read while the steps are taken is that of the cell as it was loaded
+  mask-read : (z r : ℕ) → Masks (at x z) r → Masks (at (w .floor) z) r
+  mask-read z r m = record { blocked = λ e. m .blocked (g .shut z e); free = λ o. m .free (g .free z o) }
 
-pub sides-more : (x : List ℕ) (p i a v : ℕ) (m : List ℕ) → i < 4 → Sides x p i m → a ≡ target p (2 * i) → Masks (at x a) v
-    → Sides x p (i + 1) (set m i v)
-sides-more x p i a v m b s to k = record {
-  four = length-set m i v ∙ s .four;
-  each =
-      each m i v (omega (arith, s .four)) (λ j u. j < i + 1 → Masks (at x (target p (2 * j))) u) (λ n. subst (λ (z : ℕ). Masks (at x z) v) to k)
-      (λ j e n. s .each j (omega arith));
-}
-
-pub sides-all : (x : List ℕ) (p i : ℕ) (m : List ℕ) → Sides x p i m → 4 ≤ i → Sides x p 4 m
-sides-all x p i m s b = record { four = s .four; each = λ j n. s .each j (omega arith) }
-
-module _ (w : Wave) (x₀ q₀ : List ℕ) (t₀ : ℕ) (x q : List ℕ) (t : ℕ) (g₀ : Going w x₀ q₀ t₀) (g : Going w x q t) where
-  -- a blocked cell was blocked, and an open one open
-  was-shut : (z : ℕ) → at x z ≡ 0 → at x₀ z ≡ 0
-  was-shut z e = by (ℕ-discrete (at x₀ z) 0)
+  -- a cell that is blocked now was loaded so
+  shut-floor : (z : ℕ) → at x z ≡ 0 → at (w .floor) z ≡ 0
+  shut-floor z e = by (ℕ-discrete (at (w .floor) z) 0)
     where
-      by : Dec (at x₀ z ≡ 0) → at x₀ z ≡ 0
+      by : Dec (at (w .floor) z ≡ 0) → at (w .floor) z ≡ 0
       by (yes d) = d
-      by (no d) = absurd (omega (arith, g .free z (open-floor g₀ z (omega arith))))
-
-  was-free : (z : ℕ) → 0 < at x z → 0 < at x₀ z
-  was-free z o = g₀ .free z (open-floor g z o)
+      by (no d) = absurd (omega (arith, g .free z (omega arith)))
 
   module _ (p h cand c : ℕ) where
-    past-fits : (a b : ℕ) → Masks (at x₀ (across p h)) a → Masks (at x₀ (beside p h)) b → (Past cand a b c) ⊎ (Past cand b a c) → Fits x p h cand c
+    past-fits : (a b : ℕ) → Masks (at (w .floor) (across p h)) a → Masks (at (w .floor) (beside p h)) b → (Past cand a b c) ⊎ (Past cand b a c)
+        → Fits x p h cand c
     past-fits a b m n past = let k = g .kinds (target p h) in
         record {
-          first = λ e. omega (arith, high past (inr (n .blocked (was-shut (beside p h) e))));
-          second = λ e. omega (arith, high past (inl (m .blocked (was-shut (across p h) e))));
-          both = λ s u. same past (m .free (was-free (across p h) u)) (n .free (was-free (beside p h) s));
+          first = λ e. omega (arith, high past (inr (n .blocked (shut-floor (beside p h) e))));
+          second = λ e. omega (arith, high past (inl (m .blocked (shut-floor (across p h) e))));
+          both = λ s u. same past (m .free (open-floor g (across p h) u)) (n .free (open-floor g (beside p h) s));
         }
       where
         high : (Past cand a b c) ⊎ (Past cand b a c) → (unreached ≤ a) ⊎ (unreached ≤ b) → unreached ≤ c
@@ -61,12 +48,12 @@ module _ (w : Wave) (x₀ q₀ : List ℕ) (t₀ : ℕ) (x q : List ℕ) (t : �
         same (inl k) e f = k .both e f
         same (inr k) e f = k .both f e
 
-    pub diagonal-fits : (m : List ℕ) → h < 8 → h % 2 ≡ 1 → stride + 1 ≤ p → Sides x₀ p 4 m
-        → Past cand (getD m (h / 2) 0) (getD m ((h / 2 + 1) % 4) 0) c → Fits x p h cand c
-    diagonal-fits m in-table odd low sides past = by (shape h in-table)
+    diagonal-fits : (a b : ℕ) → h < 8 → h % 2 ≡ 1 → stride + 1 ≤ p → Masks (at (w .floor) (target p (h - 1))) a
+        → Masks (at (w .floor) (target p ((h + 1) % 8))) b → Past cand a b c → Fits x p h cand c
+    diagonal-fits a b in-table odd low m n past = by (shape h in-table)
       where
-        mask : (i j z : ℕ) → i < 4 → j ≡ 2 * i → target p j ≡ z → Masks (at x₀ z) (getD m i 0)
-        mask i j z b d e = subst (λ (y : ℕ). Masks (at x₀ y) (getD m i 0)) (ap (target p) (sym d) ∙ e) (sides .each i b)
+        move : (i j z r : ℕ) → j ≡ i → target p j ≡ z → Masks (at (w .floor) (target p i)) r → Masks (at (w .floor) z) r
+        move i j z r d e k = subst (λ (y : ℕ). Masks (at (w .floor) y) r) (ap (target p) (sym d) ∙ e) k
 
         by : Shape h → Fits x p h cand c
         by (level even _) = absurd (omega arith)
@@ -75,8 +62,36 @@ module _ (w : Wave) (x₀ q₀ : List ℕ) (t₀ : ℕ) (x q : List ℕ) (t : �
           where
             between : (k : Corner h) → Flank h (k .first) (k .second) → Fits x p h cand c
             between k (inl f) =
-                past-fits _ _ (mask _ _ (across p h) (omega arith) (f .0) (omega (arith, k .along)))
-                (mask _ _ (beside p h) (omega arith) (f .1) (omega (arith, k .down))) (inl past)
+                past-fits _ _ (move _ _ (across p h) _ (f .0) (omega (arith, k .along)) m) (move _ _ (beside p h) _ (f .1) (omega (arith, k .down)) n)
+                (inl past)
             between k (inr f) =
-                past-fits _ _ (mask _ _ (across p h) (omega arith) (f .0) (omega (arith, k .along)))
-                (mask _ _ (beside p h) (omega arith) (f .1) (omega (arith, k .down))) (inr past)
+                past-fits _ _ (move _ _ (across p h) _ (f .0) (omega (arith, k .along)) n) (move _ _ (beside p h) _ (f .1) (omega (arith, k .down)) m)
+                (inr past)
+
+module _ (p cand t : ℕ) (x₀ q₀ : List ℕ) (north : ℕ) (read : Masks (at x₀ (target p 0)) north) where
+  pub diagonals-none : Room x₀ q₀ t → Diagonals p cand t x₀ q₀ north 1 x₀ q₀ t
+  diagonals-none r = record {
+    steps = headings-none 1 p cand t x₀ q₀ (omega arith) r;
+    behind = λ w o b. mask-read w x₀ q₀ t (o .going) _ _ read;
+  }
+
+  module _ (side h : ℕ) (x q : List ℕ) (t′ : ℕ) (i : Diagonals p cand t x₀ q₀ side h x q t′) (b : h < 8) (low : stride + 1 ≤ p)
+      (other : ℕ) (s : SideAfter x p h north other) where
+    ahead : (w : Wave) → Offers w x₀ q₀ t p 1 cand → Masks (at (w .floor) (target p ((h + 1) % 8))) other
+    ahead w o = by (ℕ-discrete h 7)
+      where
+        to : (j : ℕ) → j ≡ (h + 1) % 8 → Masks (at (w .floor) (target p j)) other → Masks (at (w .floor) (target p ((h + 1) % 8))) other
+        to j e = subst (λ (k : ℕ). Masks (at (w .floor) (target p k)) other) e
+
+        by : Dec (h ≡ 7) → Masks (at (w .floor) (target p ((h + 1) % 8))) other
+        by (yes e) = to 0 (omega arith) (mask-read w x₀ q₀ t (o .going) _ _ (subst (Masks (at x₀ (target p 0))) (sym (s .last e)) read))
+        by (no e) = to (h + 1) (omega arith) (mask-read w x q t′ (i .steps .keeps w o .going) _ _ (s .read (omega arith)))
+
+    pub diagonals-more : (c a : ℕ) (x′ q′ : List ℕ) (t″ : ℕ) → Past cand side other c → a ≡ target p h → OfferMade a c t′ x q x′ q′ t″
+        → Diagonals p cand t x₀ q₀ other (h + 2) x′ q′ t″
+    diagonals-more c a x′ q′ t″ past to made = record {
+      steps =
+          headings-more _ _ _ _ _ _ _ _ _ _ _ _ _ _ _ (i .steps) b to made
+          (λ w o n. diagonal-fits w x q t′ (n .going) p h cand c side other b (i .steps .parity) low (i .behind w o b) (ahead w o) past);
+      behind = λ w o n. subst (λ (k : ℕ). Masks (at (w .floor) (target p k)) other) (omega arith) (ahead w o);
+    }

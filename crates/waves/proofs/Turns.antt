@@ -4,7 +4,7 @@
 use mathlib.Core.Path.{_≡_, refl, sym, subst}
 use mathlib.Core.Logic.{_⊎_, inl, inr}
 use mathlib.Core.List.{List}
-use Prim.Native.Nat.{ℕ, _+_, _*_, _/_, _%_, _≤_, _<_}
+use Prim.Native.Nat.{ℕ, _+_, _-_, _%_, _≤_, _<_}
 use native.Mathlib.Omega.{arith}
 use lib.ListN.{length}
 use Rattle.floor.specs.declared.Change.{Change}
@@ -49,7 +49,7 @@ in-work x p h b inside = omega (arith, inside, turned h b)
 
 -- first and second are the straight headings before and after the diagonal heading h, or after and before it
 abbrev pub Flank : (h first second : ℕ) → Type 0
-Flank h first second = ((first ≡ 2 * (h / 2)) × (second ≡ 2 * ((h / 2 + 1) % 4))) ⊎ ((first ≡ 2 * ((h / 2 + 1) % 4)) × (second ≡ 2 * (h / 2)))
+Flank h first second = ((first ≡ h - 1) × (second ≡ (h + 1) % 8)) ⊎ ((first ≡ (h + 1) % 8) × (second ≡ h - 1))
 
 -- the two straight headings of a diagonal one: first along the row, then along the column
 pub record Corner (h : ℕ) : Type 0 where

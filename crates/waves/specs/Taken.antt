@@ -3,8 +3,8 @@
 -- Assumes nothing.
 use mathlib.Core.Path.{_≡_}
 use mathlib.Core.List.{List}
-use Prim.Native.Nat.{ℕ, _+_, _-_, _*_, _/_, _%_, min, _≤_, _<_}
-use lib.ListN.{getD, length, set}
+use Prim.Native.Nat.{ℕ, _+_, _-_, _/_, _%_, min, _≤_, _<_}
+use lib.ListN.{length, set}
 use Rattle.waves.specs.Work.{unreached, span, stepped, highest, at, target, WorkStep, Room}
 use Rattle.waves.specs.Wave.{Wave, Going, Falls}
 
@@ -20,10 +20,10 @@ pub record Masks (v r : ℕ) : Type 0 where
   pub blocked : v ≡ 0 → unreached ≤ r
   pub free : 0 < v → r ≡ 0
 
--- m is four masks, and the first n are those of the cells that the straight headings 0, 2, .. lead to
-pub record Sides (x : List ℕ) (p n : ℕ) (m : List ℕ) : Type 0 where
-  pub four : length m ≡ 4
-  pub each : (i : ℕ) → i < n → Masks (at x (target p (2 * i))) (getD m i 0)
+-- r is the mask of the cell that the straight heading after the diagonal heading h leads to; after 7, the last one, it is north
+pub record SideAfter (x : List ℕ) (p h north r : ℕ) : Type 0 where
+  pub read : h < 7 → Masks (at x (target p (h + 1))) r
+  pub last : h ≡ 7 → r ≡ north
 
 -- what is offered past two side cells with the masks a and b: if one is blocked, too much to count
 pub record Past (cand a b r : ℕ) : Type 0 where

@@ -8,20 +8,20 @@ ghost use Rattle.waves.specs.Load.{Run, Prefix};
 use crate::STRIDE;
 use crate::UNREACHED;
 
-// A byte's bit: 1 if its cell is blocked.
-fn bit_of(byte: u8, place: usize) -> u8
+// A bit of the byte's complement: 1 if its cell is open.
+fn open_bit(byte: u8, place: usize) -> u32
     requires { ⌜ place < 8 ⌝ }
-    ensures { λ r. ⌜ r ≡ bit place byte ⌝ }
+    ensures { λ r. ⌜ r ≡ 1 - bit place byte ⌝ }
 {
-    (byte >> place) & 1
+    ((255 - byte as u32) >> place) & 1
 }
 
-// The number of a cell with this bit: 0 if it is blocked.
-fn number_of(bit: u8) -> u32
+// The number of a cell with this open bit: 0 if it is blocked.
+fn number_of(bit: u32) -> u32
     requires { ⌜ bit < 2 ⌝ }
-    ensures { λ r. ⌜ r ≡ (1 - bit) * unreached ⌝ }
+    ensures { λ r. ⌜ r ≡ bit * unreached ⌝ }
 {
-    (1 - bit as u32) * UNREACHED
+    bit * UNREACHED
 }
 
 // The first cells of one map byte, as many as count says.
@@ -42,7 +42,7 @@ fn load_byte(
     let first = (row + 1) * STRIDE + column + 1;
     let mut i: usize = 0;
     while i < count {
-        work[first + i] = number_of(bit_of(byte, i));
+        work[first + i] = number_of(open_bit(byte, i));
         i += 1;
     }
 }

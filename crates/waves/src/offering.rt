@@ -2,8 +2,8 @@
 ghost use mathlib.Core.Path.{_≡_};
 ghost use Prim.Native.Nat.{_+_, _-_, _/_, _<_, _≤_, min};
 ghost use lib.ListN.{length};
-ghost use Rattle.waves.specs.Work.{unreached, stride, largest, Inside, target, Room};
-ghost use Rattle.waves.specs.Taken.{OfferMade, Masks, Sides, Past, StepsLeft};
+ghost use Rattle.waves.specs.Work.{unreached, stride, largest, at, Inside, target, Room};
+ghost use Rattle.waves.specs.Taken.{OfferMade, Masks, SideAfter, Past, StepsLeft};
 use crate::STRIDE;
 use crate::UNREACHED;
 
@@ -81,19 +81,28 @@ fn mask_of(number: u32) -> u32
     if number == 0 { 4294967295 } else { 0 }
 }
 
-// The masks of the four cells that the straight headings lead to.
-fn sides_of(work: &[u32], from: usize) -> [u32; 4]
+// The mask of the cell that a heading leads to.
+fn mask_at(work: &[u32], from: usize, heading: usize) -> u32
     requires { ⌜ Inside (now work) from ⌝ }
     requires { ⌜ length (now work) ≤ largest ⌝ }
-    ensures { λ r. ⌜ Sides (now (work .entry)) from 4 r ⌝ }
+    requires { ⌜ heading < 8 ⌝ }
+    ensures { λ r. ⌜ Masks (at (now (work .entry)) (target from heading)) r ⌝ }
 {
-    let mut masks = [0u32; 4];
-    let mut i: usize = 0;
-    while i < 4 {
-        masks[i] = mask_of(work[place_of(from, 2 * i)]);
-        i += 1;
+    mask_of(work[place_of(from, heading)])
+}
+
+// The mask of the cell that the straight heading after a diagonal one leads to. After the last one that is north, whose mask was read first.
+fn side_after(work: &[u32], from: usize, heading: usize, north: u32) -> u32
+    requires { ⌜ Inside (now work) from ⌝ }
+    requires { ⌜ length (now work) ≤ largest ⌝ }
+    requires { ⌜ heading < 8 ⌝ }
+    ensures { λ r. ⌜ SideAfter (now (work .entry)) from heading north r ⌝ }
+{
+    if heading == 7 {
+        north
+    } else {
+        mask_at(work, from, heading + 1)
     }
-    masks
 }
 
 // What is offered past two side cells with these masks: too much to count if one is blocked.
@@ -103,8 +112,8 @@ fn past(number: u32, side: u32, other: u32) -> u32
     number | (side | other)
 }
 
-// The diagonal steps out of a cell, with the headings 1, 3, 5, 7. A blocked cell stays blocked and an open one open, so that the side cells
-// are read once.
+// The diagonal steps out of a cell, with the headings 1, 3, 5, 7. A blocked cell stays blocked and an open one open, so that each side cell
+// is read once: its mask is kept for the other step past it.
 pub fn diagonal_steps(
     work: &mut [u32],
     queue: &mut [u16],
@@ -116,12 +125,20 @@ pub fn diagonal_steps(
     requires { ⌜ Room (now work) (now queue) tail ⌝ }
     ensures { λ r. ⌜ StepsLeft 1 from number tail (now (work .entry)) (now (queue .entry)) (now (work .exit)) (now (queue .exit)) r ⌝ }
 {
-    let masks = sides_of(work, from);
+    let north = mask_at(work, from, 0);
+    let mut side = north;
     let mut end = tail;
     let mut heading: usize = 1;
     while heading < 8 {
-        let offered = past(number, masks[heading / 2], masks[(heading / 2 + 1) % 4]);
-        end = offer(work, queue, end, place_of(from, heading), offered);
+        let other = side_after(work, from, heading, north);
+        end = offer(
+            work,
+            queue,
+            end,
+            place_of(from, heading),
+            past(number, side, other),
+        );
+        side = other;
         heading += 2;
     }
     end

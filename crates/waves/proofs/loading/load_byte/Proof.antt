@@ -42,11 +42,11 @@ add-first-3 c = search needs
 loop-holds : tie.Need-loop-holds Inv-loop μ-loop
 loop-holds c = bits-none _ _ _ _ _ (c .before .before .before .pre .0) (c .before .before .before .pre .1)
 
-bit-of-requires : tie.Need-bit-of-requires Inv-loop μ-loop
-bit-of-requires c κs = omega (arith, c .loop-test .taken, c .before .before .before .before .before .pre .0 .few)
+open-bit-requires : tie.Need-open-bit-requires Inv-loop μ-loop
+open-bit-requires c κs = omega (arith, c .loop-test .taken, c .before .before .before .before .before .pre .0 .few)
 
 number-of-requires : tie.Need-number-of-requires Inv-loop μ-loop
-number-of-requires c κs = omega (arith, c .bit-of .ensures)
+number-of-requires c κs = omega (arith, c .open-bit .ensures)
 
 add-work : tie.Need-add-work Inv-loop μ-loop
 add-work c =
@@ -74,7 +74,7 @@ loop-again : tie.Need-loop-again Inv-loop μ-loop
 loop-again c =
     let r = c .before .before .before .before .before .before .before .pre .0 in
     let turn = c .before .before in
-    bits-more _ (r .sound) _ _ _ _ _ _ _ _ r (turn .before .loop .inv) (turn .loop-test .taken) (c .before .bit-of .ensures) (c .number-of .ensures)
+    bits-more _ (r .sound) _ _ _ _ _ _ _ _ r (turn .before .loop .inv) (turn .loop-test .taken) (c .before .open-bit .ensures) (c .number-of .ensures)
 
 same-length : tie.Need-same-length Inv-loop μ-loop
 same-length c = c .before .loop .inv .cells .size
@@ -97,7 +97,7 @@ load-byte-spec =
     add-first-2
     add-first-3
     loop-holds
-    bit-of-requires
+    open-bit-requires
     number-of-requires
     add-work
     mul-work
