@@ -1,0 +1,121 @@
+// The library's fill in C++: the same waves, the same numbers, the same loading and storing, the same two sizes of scratch.
+#include "peers.hpp"
+
+namespace PEER {
+namespace {
+
+using u8 = std::uint8_t;
+using u16 = std::uint16_t;
+using u32 = std::uint32_t;
+using std::size_t;
+
+// A number is WIDE * q + r where 13860 * q + r = 13860 * (straight + 1) + 19601 * diagonal, with r below 13860.
+constexpr u32 UNREACHED = 2147483648u, WIDE = 16384, EARLY = 22125, LATE = 24649, MARK = 4294967295u;
+constexpr size_t STRIDE = 130;
+
+// The lesser of two numbers.
+inline u32 lesser(u32 a, u32 b) { return a < b ? a : b; }
+
+inline size_t offer(u32 *work, u16 *queue, size_t tail, size_t place, u32 number) {
+    const u32 before = work[place], after = lesser(number, before);
+    work[place] = after;
+    queue[tail] = u16(place);
+    return tail + (before / UNREACHED - after / UNREACHED);
+}
+
+inline size_t place_of(size_t from, int heading) { return from + size_t(DOWN[heading] * int(STRIDE) + ACROSS[heading]); }
+
+inline size_t straight_steps(u32 *work, u16 *queue, size_t tail, size_t from, u32 number) {
+    for (int heading = 0; heading < 8; heading += 2) tail = offer(work, queue, tail, place_of(from, heading), number % UNREACHED);
+    return tail;
+}
+
+// The mask of the cell that a heading leads to: all ones if it is blocked, else 0.
+inline u32 mask_at(const u32 *work, size_t from, int heading) { return work[place_of(from, heading)] == 0 ? 4294967295u : 0; }
+
+inline size_t diagonal_steps(u32 *work, u16 *queue, size_t tail, size_t from, u32 number) {
+    const u32 north = mask_at(work, from, 0);
+    u32 side = north;
+    for (int heading = 1; heading < 8; heading += 2) {
+        const u32 other = heading == 7 ? north : mask_at(work, from, heading + 1);
+        tail = offer(work, queue, tail, place_of(from, heading), number | side | other);
+        side = other;
+    }
+    return tail;
+}
+
+// 1 for a cell whose diagonal steps end past the next wave.
+inline size_t late_of(u32 number) { return number % WIDE < 8119 ? 0 : 1; }
+
+void all_waves(u32 *work, u16 *queue, size_t goal) {
+    queue[0] = u16(goal);
+    size_t prev = 0, last = 0, mid = 0, tail = 1;
+    while (mid < tail) {
+        const size_t end = tail;
+        for (size_t i = prev; i < last; i++) tail = diagonal_steps(work, queue, tail, queue[i], work[queue[i]] + LATE);
+        last = mid;
+        for (size_t i = mid; i < end; i++) {
+            const size_t from = queue[i];
+            const u32 number = work[from];
+            tail = straight_steps(work, queue, tail, from, number + WIDE);
+            if (late_of(number) == 0) tail = diagonal_steps(work, queue, tail, from, number + EARLY);
+            queue[last] = u16(from);
+            last += late_of(number);
+        }
+        prev = mid;
+        mid = end;
+    }
+}
+
+// The first cells of one map byte, as many as count says.
+inline void load_byte(u32 *to, u8 byte, size_t count) {
+    for (size_t i = 0; i < count; i++) to[i] = ((255u - byte) >> i & 1) * UNREACHED;
+}
+
+void load(u32 *work, const Floor &floor) {
+    for (size_t row = 0; row < floor.height; row++) {
+        const u8 *bytes = floor.map.data() + row * ((floor.width + 7) / 8);
+        u32 *to = work + (row + 1) * STRIDE + 1;
+        size_t column = 0;
+        for (; column + 8 <= floor.width; column += 8) load_byte(to + column, bytes[column / 8], 8);
+        if (column < floor.width) load_byte(to + column, bytes[column / 8], floor.width - column);
+    }
+}
+
+inline u32 entry_of(u32 number) {
+    if (number == 0 || number >= UNREACHED) return MARK;
+    const u32 wave = number / WIDE, rest = number % WIDE, turns = rest * 27145 / 65536, left = rest * 5741 - turns * 13860;
+    const u32 more = left < 13860 ? 0 : 1;
+    return (wave - 1 + 19601 * (turns + more) - 8119 * rest) * 65536 + (left - more * 13860);
+}
+
+void store(const u32 *work, const Floor &floor, u32 *table) {
+    for (size_t row = 0; row < floor.height; row++)
+        for (size_t column = 0; column < floor.width; column++)
+            table[row * floor.width + column] = entry_of(work[(row + 1) * STRIDE + column + 1]);
+}
+
+void fill_in(u32 *work, u16 *queue, const Floor &floor, u32 *table) {
+    load(work, floor);
+    const size_t goal = (floor.goal / floor.width + 1) * STRIDE + floor.goal % floor.width + 1;
+    work[goal] = WIDE;
+    all_waves(work, queue, goal);
+    store(work, floor, table);
+}
+
+template <size_t Cells> __attribute__((noinline)) void fill_with(const Floor &floor, u32 *table) {
+    u32 work[Cells] = {};
+    u16 queue[Cells + 1] = {};
+    fill_in(work, queue, floor, table);
+}
+
+}  // namespace
+
+void waves_fill(const Floor &floor, u32 *table) {
+    if (floor.height <= 18)
+        fill_with<20 * STRIDE>(floor, table);
+    else
+        fill_with<130 * STRIDE>(floor, table);
+}
+
+}  // namespace PEER
