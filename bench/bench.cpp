@@ -1,11 +1,13 @@
 // The benchmark: every floor is filled and checked by the library and by its peers. All must agree on every table before anything is timed.
-// They run by turns, and of each the least time of a round is kept; it prints a table of ratios for each way of taking turns, the median of
-// the rounds and, where they differ, the least and the greatest. Times are shown for orientation.
+// They run by turns, each floor for its ten goals, and of each the least time for each goal in a round is kept, and the mean of these over the
+// goals; it prints a table of ratios for each way of taking turns, the median of the rounds and, where they differ, the least and the
+// greatest. Times are shown for orientation.
 #include <algorithm>
 #include <chrono>
 #include <cstdio>
 #include <cstdlib>
 #include <functional>
+#include <numeric>
 #include "peers.hpp"
 #include "ways.h"
 
@@ -60,7 +62,6 @@ Table spoilt(const Table &table) {
 void agree(const Floor &floor, const Table &table) {
     Table other(floor.cells());
 #ifdef WITH_BOOST
-    boost_prepare(floor);
     boost_apart(floor);
     boost_apart_table(other.data());
     if (other != table) fail(floor, "Boost fills another table");
@@ -84,11 +85,11 @@ volatile std::size_t seen;
 
 enum { FILL, CHECK, APART, PACKED, FILL_G, FILL_CLANG, WINDOW_G, BORDER_G, WINDOW_CLANG, BORDER_CLANG, RUNNERS };
 
-// All that run on a floor, by number; one that is missing is empty.
-std::vector<Run> runners(const Floor &floor, const Table &table, Table &other) {
+// All that run on a floor, by number; one that is missing is empty. Each takes the floor as it stands, with one of its goals, and that goal's table.
+std::vector<Run> runners(const Floor &floor, const Table *const &table, Table &other) {
     std::vector<Run> runs(RUNNERS);
     runs[FILL] = [&] { library_fill(floor, other); };
-    runs[CHECK] = [&] { seen = library_check(floor, table).number; };
+    runs[CHECK] = [&] { seen = library_check(floor, *table).number; };
 #ifdef WITH_BOOST
     runs[APART] = [&] { boost_apart(floor); };
     runs[PACKED] = [&] { boost_packed(floor); };
@@ -97,25 +98,35 @@ std::vector<Run> runners(const Floor &floor, const Table &table, Table &other) {
         const Compiled peer = i == 0 ? BY_G : BY_CLANG;
         if (!peer.fill) continue;
         runs[FILL_G + i] = [&, peer] { peer.fill(floor, other.data()); };
-        runs[WINDOW_G + 2 * i] = [&, peer] { seen = peer.window(floor, table.data()); };
-        runs[BORDER_G + 2 * i] = [&, peer] { seen = peer.border(floor, table.data()); };
+        runs[WINDOW_G + 2 * i] = [&, peer] { seen = peer.window(floor, table->data()); };
+        runs[BORDER_G + 2 * i] = [&, peer] { seen = peer.border(floor, table->data()); };
     }
     return runs;
 }
 
-// One round: so many turns of so many calls in a row each; the least time of each, in microseconds.
-std::vector<double> round_of(const std::vector<Run> &runs, int turns, int in_a_row) {
+// One round: so many turns of so many calls in a row each, goal after goal; of each runner the mean over the goals of its least time, in
+// microseconds.
+std::vector<double> round_of(Floor &floor, const std::vector<Table> &tables, int turns, int in_a_row) {
     using Clock = std::chrono::steady_clock;
-    std::vector<double> least(runs.size(), MISSING);
+    Table other(floor.cells());
+    const Table *table = nullptr;
+    const std::vector<Run> runs = runners(floor, table, other);
+    const std::size_t goals = floor.goals.size();
+    std::vector<std::vector<double>> least(runs.size(), std::vector<double>(goals, MISSING));
     for (int turn = 0; turn < turns; turn++)
         for (std::size_t i = 0; i < runs.size(); i++)
             for (int call = 0; runs[i] && call < in_a_row; call++) {
+                const std::size_t goal = std::size_t(turn * in_a_row + call) % goals;
+                floor.goal = floor.goals[goal];
+                table = &tables[goal];
                 const auto began = Clock::now();
                 runs[i]();
                 const std::chrono::duration<double, std::micro> took = Clock::now() - began;
-                least[i] = std::min(least[i], took.count());
+                least[i][goal] = std::min(least[i][goal], took.count());
             }
-    return least;
+    std::vector<double> mean;
+    for (const std::vector<double> &times : least) mean.push_back(std::accumulate(times.begin(), times.end(), 0.0) / double(goals));
+    return mean;
 }
 
 std::string number(double value) {
@@ -132,14 +143,21 @@ std::string spread(std::vector<double> values) {
     return low == high ? middle : middle + " (" + low + "–" + high + ")";
 }
 
-void measure(const Floor &floor, int rounds, int turns, int in_a_row) {
-    Table table(floor.cells()), other(floor.cells());
-    if (library_fill(floor, table) != 0 || library_check(floor, table).number != 0) fail(floor, "the library refuses it");
-    agree(floor, table);
-    const std::vector<Run> runs = runners(floor, table, other);
+void measure(Floor &floor, int rounds, int turns, int in_a_row) {
+    std::vector<Table> tables;
+#ifdef WITH_BOOST
+    boost_prepare(floor);
+#endif
+    for (const std::size_t goal : floor.goals) {
+        floor.goal = goal;
+        Table table(floor.cells());
+        if (library_fill(floor, table) != 0 || library_check(floor, table).number != 0) fail(floor, "the library refuses it");
+        agree(floor, table);
+        tables.push_back(table);
+    }
     std::vector<std::vector<double>> shown(9);
     for (int round = 0; round < rounds; round++) {
-        const std::vector<double> t = round_of(runs, turns, in_a_row);
+        const std::vector<double> t = round_of(floor, tables, turns, in_a_row);
         const double check_g = std::min(t[WINDOW_G], t[BORDER_G]), check_clang = std::min(t[WINDOW_CLANG], t[BORDER_CLANG]);
         const double row[] = {t[FILL], t[APART] / t[FILL], t[PACKED] / t[FILL], t[FILL] / t[FILL_G], t[FILL] / t[FILL_CLANG],
                               t[CHECK], t[CHECK] / check_g, t[CHECK] / check_clang, t[FILL] / t[CHECK]};
@@ -159,5 +177,5 @@ int main(int argc, char **argv) {
     const int rounds = std::atoi(argv[1]), calls = std::atoi(argv[3]), turns = std::atoi(argv[2]);
     std::printf("| floor | fill, µs | Boost, pairs / fill | Boost, packed / fill | fill / C++ by g++ | fill / C++ by clang++ | check, µs "
                 "| check / C++ by g++ | check / C++ by clang++ | fill / check |\n|---|---|---|---|---|---|---|---|---|---|\n");
-    for (const Floor &floor : all_floors()) measure(floor, rounds, floor.cells() < 1000 ? 20 * turns : turns, calls);
+    for (Floor &floor : all_floors()) measure(floor, rounds, floor.cells() < 1000 ? 20 * turns : turns, calls);
 }

@@ -1,4 +1,4 @@
-// The floors of the benchmarks, each with a goal, all from fixed seeds.
+// The floors of the benchmarks, each with ten goals, all from fixed seeds.
 #pragma once
 #include <cstdint>
 #include <random>
@@ -9,7 +9,8 @@ struct Floor {
     std::string name;
     std::size_t width, height;
     std::vector<std::uint8_t> map;
-    std::size_t goal = 0;
+    std::vector<std::size_t> goals;
+    std::size_t goal = 0;  // the one of the goals that is filled for now
 
     Floor(std::string name, std::size_t width, std::size_t height)
         : name(std::move(name)), width(width), height(height), map(height * ((width + 7) / 8)) {}
@@ -37,10 +38,10 @@ struct Floor {
 constexpr int ACROSS[8] = {0, 1, 1, 1, 0, -1, -1, -1};
 constexpr int DOWN[8] = {-1, -1, 0, 1, 1, 1, 0, -1};
 
-// Puts the goal into the largest part of the floor that hangs together.
-inline void goal_in_largest(Floor &floor) {
+// Takes ten goals out of the largest part of the floor that hangs together.
+inline void goals_in_largest(Floor &floor) {
     std::vector<char> seen(floor.cells());
-    std::size_t most = 0;
+    std::vector<std::size_t> largest;
     for (std::size_t first = 0; first < floor.cells(); first++) {
         if (seen[first] || floor.blocked(first % floor.width, first / floor.width)) continue;
         std::vector<std::size_t> part{first};
@@ -54,16 +55,16 @@ inline void goal_in_largest(Floor &floor) {
                 part.push_back(std::size_t(r) * floor.width + std::size_t(c));
             }
         }
-        if (part.size() > most) {
-            most = part.size();
-            floor.goal = part[part.size() / 2];
-        }
+        if (part.size() > largest.size()) largest = part;
     }
+    std::mt19937 random(5);
+    for (int i = 0; i < 10; i++) floor.goals.push_back(largest[random() % largest.size()]);
+    floor.goal = floor.goals[0];
 }
 
 inline Floor open_floor(std::size_t side) {
     Floor floor("open", side, side);
-    floor.goal = (side / 2) * side + side / 2;
+    goals_in_largest(floor);
     return floor;
 }
 
@@ -73,6 +74,7 @@ inline Floor racks(std::size_t side) {
     for (std::size_t row = 4; row + 4 < side; row++)
         for (std::size_t column = 2; column + 2 < side; column++)
             if (row % 40 >= 3 && (column % 5 == 2 || column % 5 == 3)) floor.block(column, row);
+    goals_in_largest(floor);
     return floor;
 }
 
@@ -81,7 +83,7 @@ inline Floor random_floor(std::size_t side, unsigned percent) {
     std::mt19937 random(100 + percent);
     for (std::size_t cell = 0; cell < floor.cells(); cell++)
         if (random() % 100 < percent) floor.block(cell % side, cell / side);
-    goal_in_largest(floor);
+    goals_in_largest(floor);
     return floor;
 }
 
@@ -99,6 +101,7 @@ inline Floor rooms(std::size_t side) {
             if (down + 16 < side)
                 for (std::size_t i = 0; i < 2; i++) floor.block(column + i, down + 15, false);
         }
+    goals_in_largest(floor);
     return floor;
 }
 
@@ -108,6 +111,7 @@ inline Floor serpentine(std::size_t side) {
     for (std::size_t row = 1; row < side; row += 2)
         for (std::size_t column = 0; column < side; column++)
             if (column != (row / 2 % 2 == 0 ? side - 1 : 0)) floor.block(column, row);
+    goals_in_largest(floor);
     return floor;
 }
 

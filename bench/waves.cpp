@@ -20,50 +20,50 @@ inline size_t offer(u32 *work, u16 *queue, size_t tail, size_t place, u32 number
     const u32 before = work[place], after = lesser(number, before);
     work[place] = after;
     queue[tail] = u16(place);
-    return tail + (before / UNREACHED - after / UNREACHED);
+    return tail + (before ^ after) / UNREACHED;
 }
 
 inline size_t place_of(size_t from, int heading) { return from + size_t(DOWN[heading] * int(STRIDE) + ACROSS[heading]); }
 
-inline size_t straight_steps(u32 *work, u16 *queue, size_t tail, size_t from, u32 number) {
-    for (int heading = 0; heading < 8; heading += 2) tail = offer(work, queue, tail, place_of(from, heading), number % UNREACHED);
-    return tail;
+// Where the queue ends after a straight step, and the mask of the cell that it leads to: all ones if it is blocked, else 0.
+struct Side {
+    size_t tail;
+    u32 mask;
+};
+
+inline Side side_step(u32 *work, u16 *queue, size_t tail, size_t from, int heading, u32 number) {
+    const size_t place = place_of(from, heading);
+    const u32 mask = work[place] == 0 ? 4294967295u : 0;
+    return {offer(work, queue, tail, place, number % UNREACHED), mask};
 }
 
-// The mask of the cell that a heading leads to: all ones if it is blocked, else 0.
-inline u32 mask_at(const u32 *work, size_t from, int heading) { return work[place_of(from, heading)] == 0 ? 4294967295u : 0; }
-
-inline size_t diagonal_steps(u32 *work, u16 *queue, size_t tail, size_t from, u32 number) {
-    const u32 north = mask_at(work, from, 0);
-    u32 side = north;
+// All steps out of a cell.
+inline size_t cell_steps(u32 *work, u16 *queue, size_t tail, size_t from) {
+    const u32 number = work[from], straight = number + WIDE, diagonal = number + (number % WIDE < 8119 ? EARLY : LATE);
+    const Side north = side_step(work, queue, tail, from, 0, straight);
+    u32 side = north.mask;
+    tail = north.tail;
     for (int heading = 1; heading < 8; heading += 2) {
-        const u32 other = heading == 7 ? north : mask_at(work, from, heading + 1);
-        tail = offer(work, queue, tail, place_of(from, heading), number | side | other);
-        side = other;
+        const Side other = heading == 7 ? Side{tail, north.mask} : side_step(work, queue, tail, from, heading + 1, straight);
+        tail = offer(work, queue, other.tail, place_of(from, heading), diagonal | side | other.mask);
+        side = other.mask;
     }
     return tail;
 }
 
-// 1 for a cell whose diagonal steps end past the next wave.
-inline size_t late_of(u32 number) { return number % WIDE < 8119 ? 0 : 1; }
-
 void all_waves(u32 *work, u16 *queue, size_t goal) {
     queue[0] = u16(goal);
-    size_t prev = 0, last = 0, mid = 0, tail = 1;
-    while (mid < tail) {
-        const size_t end = tail;
-        for (size_t i = prev; i < last; i++) tail = diagonal_steps(work, queue, tail, queue[i], work[queue[i]] + LATE);
-        last = mid;
-        for (size_t i = mid; i < end; i++) {
+    size_t mid = 0, tail = 1;
+    for (u32 limit = 2 * WIDE; mid < tail; limit += WIDE) {
+        size_t top = tail;
+        for (size_t i = tail; i-- > mid;) {
             const size_t from = queue[i];
-            const u32 number = work[from];
-            tail = straight_steps(work, queue, tail, from, number + WIDE);
-            if (late_of(number) == 0) tail = diagonal_steps(work, queue, tail, from, number + EARLY);
-            queue[last] = u16(from);
-            last += late_of(number);
+            if (work[from] < limit)
+                tail = cell_steps(work, queue, tail, from);
+            else
+                queue[--top] = u16(from);
         }
-        prev = mid;
-        mid = end;
+        mid = top;
     }
 }
 

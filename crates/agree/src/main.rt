@@ -5,13 +5,13 @@
 mod many;
 mod shapes;
 
-use answers::left::BUFFERS;
-use answers::left::MAP;
-use answers::left::TABLES;
-use answers::tally;
-use answers::tally::COUNTS;
+use makings::floors;
+use makings::left::BUFFERS;
+use makings::left::MAP;
+use makings::left::TABLES;
+use makings::tally;
+use makings::tally::COUNTS;
 use solver::sheet::SCRATCH;
-use trials::floors;
 use trials::numbers;
 use trials::planted;
 

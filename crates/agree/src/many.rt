@@ -1,15 +1,15 @@
 // Floors that look random, by the many, and given ones.
-use answers::left::BUFFERS;
-use answers::left::MAP;
-use answers::left::TABLES;
-use answers::tally;
-use answers::tally::COUNTS;
 use comparing::call;
 use comparing::call::Call;
+use makings::floors;
+use makings::left::BUFFERS;
+use makings::left::MAP;
+use makings::left::TABLES;
+use makings::random;
+use makings::tally;
+use makings::tally::COUNTS;
 use solver::sheet::SCRATCH;
 use trials::bent;
-use trials::floors;
-use trials::random;
 use trials::trial;
 ghost use Prim.Native.Nat.{_+_, _≤_, _<_};
 

@@ -1,13 +1,13 @@
 // Every floor of a shape, for small and for longer shapes.
-use answers::left::BUFFERS;
-use answers::left::MAP;
-use answers::left::TABLES;
-use answers::tally::COUNTS;
 use comparing::call;
 use comparing::call::Call;
+use makings::floors;
+use makings::left::BUFFERS;
+use makings::left::MAP;
+use makings::left::TABLES;
+use makings::random;
+use makings::tally::COUNTS;
 use solver::sheet::SCRATCH;
-use trials::floors;
-use trials::random;
 use trials::trial;
 ghost use Prim.Native.Nat.{_≤_};
 

@@ -1,9 +1,9 @@
 // What a call said, as numbers: document 01's number and up to four values. The library's answers and the solver's are both put in this form,
 // and a fault can be planted in the library's before the two are compared.
 use floor::Accepted;
-use floor::Roomed;
 use lengths::Compared;
 use lengths::Distance;
+use rooms::Roomed;
 use route::Answer;
 use solver::hall::Hall;
 use solver::trail::Route;

@@ -17,11 +17,11 @@ use Rattle.lengths.specs.Order.{_⊑_, _⊏_, shorter}
 use Rattle.lengths.proofs.Order.{⊏-⊑, shorter-yes, shorter-no}
 use Rattle.lengths.proofs.Keys.{key, order-key}
 use Rattle.lengths.proofs.Tested.{small-parts, parts-small}
-use Rattle.floor.specs.CallTests.{Fitting}
+use Rattle.calls.specs.CallTests.{Fitting}
 use Rattle.floor.specs.Floor.{Map, both, blocked, open?, cellOf}
-use Rattle.floor.specs.Inner.{openPast}
+use Rattle.steps.specs.Leading.{openPast}
 use Rattle.floor.proofs.Joined.{both-true}
-use Rattle.floor.proofs.OnMap.{few-cells}
+use Rattle.steps.proofs.OnMap.{few-cells}
 use Rattle.entries.specs.Entry.{Entry, mark, long, partsOf, malformed, read}
 use Rattle.entries.specs.Best.{lesser}
 use Rattle.checking.specs.Number.{none, wall, keyOf, notMark, openNumber, numberOf, onFloor, numberAt}

@@ -15,10 +15,10 @@ use Rattle.lengths.specs.Order.{_⊕_, _⊑_}
 use Rattle.lengths.proofs.Order.{⊑-antisym}
 use Rattle.lengths.proofs.Keys.{key, key-order}
 use Rattle.floor.specs.Floor.{Map}
-use Rattle.floor.specs.Inner.{leadOf}
-use Rattle.floor.specs.Step.{stepsOf}
-use Rattle.floor.specs.Way.{Graph, Only}
-use Rattle.floor.proofs.Leads.{to-step, from-step}
+use Rattle.steps.specs.Leading.{leadOf}
+use Rattle.steps.specs.Step.{stepsOf}
+use Rattle.steps.specs.Way.{Graph, Only}
+use Rattle.steps.proofs.Leads.{to-step, from-step}
 use Rattle.entries.specs.Entry.{Entry, mark, long, pack, partsOf, malformed, entryAt}
 use Rattle.entries.specs.Made.{Least, Made, Right}
 use Rattle.entries.specs.Best.{made}

@@ -24,10 +24,10 @@ use Rattle.given.specs.Given.{pick}
 use Rattle.lengths.specs.Order.{zeroLength}
 use Rattle.lengths.proofs.Keys.{key}
 use Rattle.floor.specs.Floor.{Map, Open, blocked, open?, cellOf}
-use Rattle.floor.specs.Heading.{changeOf, weight}
-use Rattle.floor.specs.Inner.{openPast, permitted, leadOf}
-use Rattle.floor.specs.Step.{stepsOf, one-step}
-use Rattle.floor.proofs.Headings.{change-small}
+use Rattle.steps.specs.Heading.{changeOf, weight}
+use Rattle.steps.specs.Leading.{openPast, permitted, leadOf}
+use Rattle.steps.specs.Step.{stepsOf, one-step}
+use Rattle.steps.proofs.Headings.{change-small}
 use Rattle.entries.specs.Entry.{Entry, mark, long, entryAt}
 use Rattle.entries.specs.Made.{Made, Right}
 use Rattle.entries.specs.Best.{offer, best, made}

@@ -12,11 +12,11 @@ use Rattle.given.specs.Given.{pick}
 use Rattle.lengths.specs.declared.Length.{Length}
 use Rattle.lengths.specs.Order.{steps}
 use Rattle.lengths.proofs.Keys.{key}
-use Rattle.floor.specs.declared.Lead.{Lead}
-use Rattle.floor.specs.declared.Lead.the-variants.{To, Nowhere}
+use Rattle.steps.specs.declared.Lead.{Lead}
+use Rattle.steps.specs.declared.Lead.the-variants.{To, Nowhere}
 use Rattle.floor.specs.Floor.{both}
-use Rattle.floor.specs.Heading.{weight}
-use Rattle.floor.specs.Step.{one-step}
+use Rattle.steps.specs.Heading.{weight}
+use Rattle.steps.specs.Step.{one-step}
 use Rattle.entries.specs.Entry.{Entry, read, entryAt}
 use Rattle.entries.specs.Best.{further, offer, lesser, best}
 use Rattle.entries.proofs.Best.{lesser-is}

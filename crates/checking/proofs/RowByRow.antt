@@ -14,9 +14,9 @@ use lib.ListN.{length, getD}
 use borrow.Author.Tests.{le-leb, lt-leb, eq-eqb, ne-eqb}
 use Rattle.given.specs.Given.{pick}
 use Rattle.floor.specs.Floor.{Map, Open, cellOf, cells}
-use Rattle.floor.specs.Step.{stepsOf}
-use Rattle.floor.specs.Way.{Only}
-use Rattle.floor.proofs.OnMap.{few-cells}
+use Rattle.steps.specs.Step.{stepsOf}
+use Rattle.steps.specs.Way.{Only}
+use Rattle.steps.proofs.OnMap.{few-cells}
 use Rattle.floor.specs.Inner.{Ready}
 use Rattle.entries.specs.Made.{Right, Judged}
 use Rattle.checking.specs.Number.{none, numberAt}

@@ -8,11 +8,11 @@ use lib.Dec.{leb, eqb}
 use lib.ListN.{length, getD}
 use Rattle.given.specs.Given.{pick}
 use Rattle.lengths.proofs.Keys.{key}
-use Rattle.floor.specs.CallTests.{Fitting}
+use Rattle.calls.specs.CallTests.{Fitting}
 use Rattle.floor.specs.Floor.{Map, cellOf}
-use Rattle.floor.specs.Heading.{changeOf, weight}
-use Rattle.floor.specs.Step.{stepsOf}
-use Rattle.floor.specs.Way.{Only}
+use Rattle.steps.specs.Heading.{changeOf, weight}
+use Rattle.steps.specs.Step.{stepsOf}
+use Rattle.steps.specs.Way.{Only}
 use Rattle.entries.specs.Made.{Right, Judged}
 use Rattle.checking.specs.Number.{none, wall, numberAt}
 

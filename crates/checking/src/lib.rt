@@ -3,8 +3,8 @@
 ghost use Prim.Native.Nat.{_<_};
 ghost use lib.ListN.{length};
 ghost use Rattle.floor.specs.Floor.{mapOf, cells};
-ghost use Rattle.floor.specs.Step.{stepsOf};
-ghost use Rattle.floor.specs.Way.{Only};
+ghost use Rattle.steps.specs.Step.{stepsOf};
+ghost use Rattle.steps.specs.Way.{Only};
 ghost use Rattle.floor.specs.Inner.{Ready};
 ghost use Rattle.entries.specs.Made.{Right, Judged};
 ghost use Rattle.checking.specs.Window.{Walled, Window, RowJudged};

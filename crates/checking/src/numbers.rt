@@ -2,7 +2,7 @@
 ghost use mathlib.Core.Path.{_≡_};
 ghost use Prim.Native.Nat.{_+_, _<_};
 ghost use lib.ListN.{length};
-ghost use Rattle.floor.specs.CallTests.{Fitting};
+ghost use Rattle.calls.specs.CallTests.{Fitting};
 ghost use Rattle.floor.specs.Floor.{mapOf};
 ghost use Rattle.checking.specs.Number.{notMark, openNumber, numberOf, numberAt};
 

@@ -2,7 +2,7 @@
 ghost use mathlib.Core.Path.{_≡_};
 ghost use Prim.Native.Nat.{_≤_, _<_, min};
 ghost use Rattle.lengths.proofs.Keys.{key};
-ghost use Rattle.floor.specs.Heading.{weight};
+ghost use Rattle.steps.specs.Heading.{weight};
 ghost use Rattle.checking.specs.Window.{Low, shutOf, offeredIn, offerIn, leastIn};
 use crate::numbers::DIAGONAL;
 use crate::numbers::STRAIGHT;
@@ -50,7 +50,7 @@ fn offer(window: &[u32; 390], place: usize, heading: usize) -> u32
     requires { ⌜ Low (now window) ⌝ }
     ensures { λ r. ⌜ r ≡ offerIn (now (window .entry)) place heading ⌝ }
 {
-    let change = floor::steps::change_of(heading);
+    let change = steps::change_of(heading);
     offered(window, place, change.column, change.row, step_key(heading))
 }
 

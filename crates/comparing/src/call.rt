@@ -1,14 +1,15 @@
 // One call of the library and the same of the solver, over the same numbers and buffers.
 use crate::jobs;
 use crate::routes;
-use answers::left;
-use answers::left::BUFFERS;
-use answers::left::MAP;
-use answers::left::TABLES;
 use answers::said;
 use answers::said::Said;
-use answers::tally;
-use answers::tally::COUNTS;
+use makings::floors;
+use makings::left;
+use makings::left::BUFFERS;
+use makings::left::MAP;
+use makings::left::TABLES;
+use makings::tally;
+use makings::tally::COUNTS;
 use solver::sheet::SCRATCH;
 ghost use Prim.Native.Nat.{_≤_};
 
@@ -82,14 +83,6 @@ impl Call {
     }
 }
 
-// How many bytes a row takes.
-pub fn bytes_in_row(width: usize) -> usize
-    requires { ⌜ width ≤ 128 ⌝ }
-    ensures { λ r. ⌜ r ≤ 16 ⌝ }
-{
-    (width + 7) / 8
-}
-
 // A call on a floor, over its whole map and table.
 pub fn on_floor(width: usize, height: usize) -> Call
     requires { ⌜ (width ≤ 128) × (height ≤ 128) ⌝ }
@@ -98,7 +91,7 @@ pub fn on_floor(width: usize, height: usize) -> Call
         kind: tally::FLOORS,
         width,
         height,
-        bytes: height * bytes_in_row(width),
+        bytes: height * floors::bytes_in_row(width),
         entries: height * width,
         room: 0,
         from_column: 0,

@@ -1,12 +1,12 @@
 // Floors, rooms and tables, each call made of the library and of the solver, and compared in all that they say and leave. Each answers what the
 // solver said.
 use crate::call::Call;
-use answers::left;
-use answers::left::TABLES;
 use answers::said;
 use answers::said::Said;
-use answers::tally;
-use answers::tally::COUNTS;
+use makings::left;
+use makings::left::TABLES;
+use makings::tally;
+use makings::tally::COUNTS;
 use solver::sheet::SCRATCH;
 ghost use Prim.Native.Nat.{_+_, _≤_, _<_};
 ghost use lib.ListN.{length};
@@ -43,7 +43,7 @@ pub fn try_room(
     scratch: &mut [u32; SCRATCH],
     counts: &mut [u64; COUNTS],
 ) -> Said {
-    let roomed = floor::room_around(call.width, call.height, map, call.column, call.row);
+    let roomed = rooms::room_around(call.width, call.height, map, call.column, call.row);
     let ours = said::of_roomed(roomed);
     let hall = solver::hall::room(call.width, call.height, map, call.column, call.row, scratch);
     let theirs = said::of_hall(hall);

@@ -2,9 +2,9 @@
 use crate::jobs;
 use answers::said;
 use answers::said::Said;
-use answers::tally;
-use answers::tally::COUNTS;
 use lengths::Length;
+use makings::tally;
+use makings::tally::COUNTS;
 
 // Compares two lengths.
 pub fn try_comparison(

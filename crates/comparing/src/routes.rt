@@ -1,13 +1,13 @@
 // Routes, found and read, by the library and by the solver, compared in all that they say and leave. Each answers what the solver said.
 use crate::call::Call;
 use crate::jobs;
-use answers::left;
-use answers::left::BUFFERS;
-use answers::left::TABLES;
 use answers::said;
 use answers::said::Said;
-use answers::tally;
-use answers::tally::COUNTS;
+use makings::left;
+use makings::left::BUFFERS;
+use makings::left::TABLES;
+use makings::tally;
+use makings::tally::COUNTS;
 use solver::sheet::SCRATCH;
 ghost use Prim.Native.Nat.{_+_, _≤_, _<_};
 ghost use lib.ListN.{length};

@@ -11,11 +11,11 @@ use Rattle.given.specs.Given.{pick}
 use Rattle.lengths.specs.declared.Length.{Length}
 use Rattle.lengths.specs.Order.{zeroLength, _⊕_, _⊑_, _⊏_, shorter}
 use Rattle.lengths.proofs.Order.{⊑-refl, ⊑-trans, ⊏-⊑, ⊑-antisym, shorter-yes, shorter-no}
-use Rattle.floor.specs.declared.Lead.{Lead}
-use Rattle.floor.specs.declared.Lead.the-variants.{To, Nowhere}
-use Rattle.floor.specs.Heading.{weight}
-use Rattle.floor.specs.Step.{one-step}
-use Rattle.floor.specs.Way.{Graph}
+use Rattle.steps.specs.declared.Lead.{Lead}
+use Rattle.steps.specs.declared.Lead.the-variants.{To, Nowhere}
+use Rattle.steps.specs.Heading.{weight}
+use Rattle.steps.specs.Step.{one-step}
+use Rattle.steps.specs.Way.{Graph}
 use Rattle.entries.specs.Entry.{Entry, mark, long}
 use Rattle.entries.specs.Made.{Least, Made}
 use Rattle.entries.specs.Best.{further, offer, lesser, best, made}

@@ -9,8 +9,8 @@ use native.Mathlib.Decide.{decLe}
 use lib.ListN.{getD, length, List·getD-eq-default}
 use Rattle.lengths.specs.declared.Length.{Length}
 use Rattle.lengths.specs.Inner.{Within}
-use Rattle.floor.specs.Way.{Graph, Way, stay, step, Reach}
-use Rattle.floor.proofs.Bound.{bound}
+use Rattle.steps.specs.Way.{Graph, Way, stay, step, Reach}
+use Rattle.steps.proofs.Bound.{bound}
 use Rattle.entries.specs.Entry.{Entry, mark, long, pack, read, malformed, entryAt}
 use Rattle.entries.specs.Filled.{Says, Filled}
 use Rattle.entries.specs.Made.{Least, Made, Right}

@@ -9,7 +9,7 @@ use native.Mathlib.Nat.{le-refl}
 use Rattle.lengths.specs.declared.Length.{Length}
 use Rattle.lengths.specs.Order.{zeroLength, _⊕_, steps, _⊑_}
 use Rattle.lengths.proofs.Order.{⊑-refl, ⊑-trans, ⊑-antisym, ⊕-mono, zero-least}
-use Rattle.floor.specs.Way.{Graph, Way, stay, step, Reach}
+use Rattle.steps.specs.Way.{Graph, Way, stay, step, Reach}
 use Rattle.entries.specs.Entry.{Entry, mark, long}
 use Rattle.entries.specs.Filled.{Says}
 use Rattle.entries.specs.Made.{Least, Made}

@@ -6,8 +6,8 @@ use Prim.Native.Nat.{ℕ, _<_}
 use native.Mathlib.Omega.{arith}
 use lib.ListN.{getD}
 use lib.Seq.{ext-getD}
-use Rattle.floor.specs.Way.{Graph}
-use Rattle.floor.proofs.Ways.{shortest-unique}
+use Rattle.steps.specs.Way.{Graph}
+use Rattle.steps.proofs.Ways.{shortest-unique}
 use Rattle.entries.specs.Entry.{Entry, mark, long, pack}
 use Rattle.entries.specs.Filled.{Says, Filled}
 

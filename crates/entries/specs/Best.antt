@@ -5,9 +5,9 @@ use Prim.Native.Nat.{ℕ, zero, suc}
 use Rattle.given.specs.Given.{pick}
 use Rattle.lengths.specs.declared.Length.{Length}
 use Rattle.lengths.specs.Order.{zeroLength, _⊕_, shorter}
-use Rattle.floor.specs.declared.Lead.{Lead}
-use Rattle.floor.specs.declared.Lead.the-variants.{To, Nowhere}
-use Rattle.floor.specs.Heading.{weight}
+use Rattle.steps.specs.declared.Lead.{Lead}
+use Rattle.steps.specs.declared.Lead.the-variants.{To, Nowhere}
+use Rattle.steps.specs.Heading.{weight}
 use Rattle.entries.specs.Entry.{Entry, mark, long}
 
 -- an entry plus a step

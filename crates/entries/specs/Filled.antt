@@ -5,7 +5,7 @@ use mathlib.Core.List.{List}
 use Prim.Native.Nat.{ℕ, _<_}
 use lib.ListN.{getD, length}
 use Rattle.lengths.specs.declared.Length.{Length}
-use Rattle.floor.specs.Way.{Graph, Reach, Shortest}
+use Rattle.steps.specs.Way.{Graph, Reach, Shortest}
 use Rattle.entries.specs.Entry.{Entry, mark, long, pack}
 
 -- what an entry says of its cell: the shortest length; or, with the mark, that there is no way, as there is none from a blocked cell

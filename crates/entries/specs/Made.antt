@@ -7,7 +7,7 @@ use Prim.Native.Nat.{ℕ, _≤_, _<_}
 use lib.ListN.{getD}
 use Rattle.lengths.specs.declared.Length.{Length}
 use Rattle.lengths.specs.Order.{zeroLength, _⊕_, _⊑_}
-use Rattle.floor.specs.Way.{Graph}
+use Rattle.steps.specs.Way.{Graph}
 use Rattle.entries.specs.Entry.{Entry, mark, long, pack, malformed, entryAt}
 
 -- the least of neighbour's entry plus the step over the permitted steps, neighbours that say nothing left out; with none remaining, the mark

@@ -2,23 +2,15 @@
 -- Assumes nothing.
 use mathlib.Core.Path.{_≡_}
 use mathlib.Core.Bool.{Bool, true, false}
-use Prim.Native.Nat.{ℕ, _+_, _-_, _*_, _%_, _/_, _≤_, _<_}
-use lib.Dec.{ltb}
+use Prim.Native.Nat.{ℕ, _+_, _*_, _%_, _/_, _≤_, _<_}
 use lib.ListN.{length}
 use Rattle.given.specs.Given.{pick}
-use Rattle.floor.specs.declared.Accepted.{Accepted}
-use Rattle.floor.specs.declared.Accepted.the-variants as accepted
-use Rattle.floor.specs.declared.Roomed.{Roomed}
-use Rattle.floor.specs.declared.Roomed.the-variants as roomed
 use Rattle.floor.specs.declared.Place.{Place}
 use Rattle.floor.specs.declared.Place.the-variants as place
 use Rattle.floor.specs.declared.Test.{Test}
 use Rattle.floor.specs.declared.Test.the-variants as test
-use Rattle.floor.specs.declared.Lead.{Lead}
-use Rattle.floor.specs.declared.Lead.the-variants as lead
-use Rattle.floor.specs.Floor.{Map, Open, bytesPerRow, both, open?, cellOf, cells}
+use Rattle.floor.specs.Floor.{Map, Open, bytesPerRow, cells}
 use Rattle.floor.specs.Refusals.{offFloor}
-use Rattle.floor.specs.Heading.{changeOf}
 
 -- sides that pass their test
 pub record Sided (width height : ℕ) : Type 0 where
@@ -50,25 +42,3 @@ placeOf width height column row = pick (offFloor width height (record { column =
 abbrev pub testOf : Bool → Test
 testOf true = test.Failed
 testOf false = test.Passed
-
--- whether a cell is open, its column and row counted from one further, so that a change of −1 stays a whole number
-unfoldable pub openPast : Map → ℕ → ℕ → Bool
-openPast m column row = both (ltb 0 column) (both (ltb 0 row) (open? m (column - 1) (row - 1)))
-
--- the four cells of a step
-unfoldable pub permitted : Map → (across down column row : ℕ) → Bool
-permitted m across down column row =
-    both (openPast m (column + 1) (row + 1))
-    (both (openPast m (column + across) (row + down)) (both (openPast m (column + 1) (row + down)) (openPast m (column + across) (row + 1))))
-
--- where a heading leads from a cell
-unfoldable pub leadOf : Map → ℕ → ℕ → Lead
-leadOf m h x =
-    pick (permitted m (changeOf h .column) (changeOf h .row) (x % m .width) (x / m .width))
-    (lead.To (cellOf m (x % m .width + changeOf h .column - 1) (x / m .width + changeOf h .row - 1)))
-    lead.Nowhere
-
--- a floor's refusal, as a room's
-abbrev pub roomRefusal : Accepted → Roomed
-roomRefusal (accepted.Floor s) = roomed.Refused 0
-roomRefusal (accepted.Refused n) = roomed.Refused n

@@ -1,10 +1,5 @@
 pub mod Floor
 pub mod Refusals
-pub mod Heading
-pub mod Way
-pub mod Step
-pub mod Room
 pub mod Answers
 pub mod Inner
 pub mod Calls
-pub mod CallTests

@@ -12,7 +12,7 @@ use Rattle.given.specs.Given.{Given, refusal, pick, either}
 use Rattle.given.proofs.Picked.{first-most}
 use Rattle.floor.specs.Floor.{Map}
 use Rattle.floor.specs.Refusals.{Spot, holds}
-use Rattle.floor.specs.Way.{Graph}
+use Rattle.steps.specs.Way.{Graph}
 use Rattle.floor.specs.Calls.{asks, routeRefused}
 use Rattle.route.specs.declared.Answer.{Answer}
 use Rattle.route.specs.declared.Answer.the-variants as answer

@@ -12,7 +12,7 @@ use Rattle.lengths.specs.Distance.{Spoken}
 use Rattle.lengths.specs.Answers.{Compares, Speaks}
 use Rattle.lengths.proofs.Rounding.{spoken-unique}
 use Rattle.floor.specs.Floor.{Map}
-use Rattle.floor.specs.Answers.{Rooms}
+use Rattle.rooms.specs.Answers.{Rooms}
 use Rattle.table.specs.Answers.{fillGives, checkGives}
 use Rattle.table.proofs.Unique.{fills-only, checks-only}
 use Rattle.route.specs.Answers.{answerGives}

@@ -16,11 +16,11 @@ use Rattle.lengths.specs.declared.Distance.the-variants as distance
 use Rattle.lengths.specs.Answers.{comparedGives, Compares, distanceGives, Speaks}
 use Rattle.floor.specs.declared.Test.{Test}
 use Rattle.floor.specs.declared.Test.the-variants as test
-use Rattle.floor.specs.declared.Roomed.{Roomed}
-use Rattle.floor.specs.declared.Roomed.the-variants as roomed
+use Rattle.rooms.specs.declared.Roomed.{Roomed}
+use Rattle.rooms.specs.declared.Roomed.the-variants as roomed
 use Rattle.floor.specs.Floor.{Map}
 use Rattle.floor.specs.Inner.{testOf}
-use Rattle.floor.specs.Answers.{roomedGives, Rooms}
+use Rattle.rooms.specs.Answers.{roomedGives, Rooms}
 use Rattle.floor.proofs.Tested.{test-passed, test-failed}
 use Rattle.plan.specs.declared.Reading.{Reading}
 use Rattle.plan.specs.declared.Reading.the-variants as reading

@@ -11,8 +11,8 @@ use Rattle.table.specs.declared.CheckAnswer as table
 use Rattle.table.specs.declared.CheckAnswer.the-variants as check
 use Rattle.route.specs.declared.Answer.{Answer}
 use Rattle.route.specs.declared.Answer.the-variants as answer
-use Rattle.floor.specs.declared.Roomed.{Roomed}
-use Rattle.floor.specs.declared.Roomed.the-variants as roomed
+use Rattle.rooms.specs.declared.Roomed.{Roomed}
+use Rattle.rooms.specs.declared.Roomed.the-variants as roomed
 use Rattle.plan.specs.declared.Reading.{Reading}
 use Rattle.plan.specs.declared.Reading.the-variants as reading
 use Rattle.plan.specs.declared.Query.{Query}

@@ -9,11 +9,11 @@ use crate::PlanAnswer;
 use crate::QueryAnswer;
 use crate::RoomAnswer;
 use crate::RouteAnswer;
-use floor::Roomed;
 use lengths::Compared;
 use lengths::Distance;
 use plan::Query;
 use plan::Reading;
+use rooms::Roomed;
 use route::Answer;
 use table::FillAnswer;
 

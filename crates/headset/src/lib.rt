@@ -4,7 +4,7 @@ ghost use mathlib.Core.Path.{_≡_};
 ghost use Rattle.floor.specs.Floor.{mapOf};
 ghost use Rattle.floor.specs.Inner.{testOf};
 ghost use Rattle.floor.specs.Calls.{spotOf};
-ghost use Rattle.floor.specs.Answers.{Rooms};
+ghost use Rattle.rooms.specs.Answers.{Rooms};
 ghost use Rattle.lengths.specs.Answers.{Compares, Speaks};
 ghost use Rattle.plan.specs.Reads.{Reads};
 ghost use Rattle.route.specs.Answers.{answerGives, Finds, ReadsTable};
@@ -208,7 +208,7 @@ pub extern "C" fn ways_room(
 ) -> RoomAnswer
     ensures { λ r. ⌜ Told (Rooms (mapOf width height (now (map .entry))) column row) (roomFields r) ⌝ }
 {
-    answers::room_answer(floor::room_around(width, height, map, column, row))
+    answers::room_answer(rooms::room_around(width, height, map, column, row))
 }
 
 // What the bytes are as a plan.

@@ -14,13 +14,13 @@ use Rattle.lengths.specs.declared.Length.{Length}
 use Rattle.lengths.specs.Order.{steps}
 use Rattle.floor.specs.Floor.{Map, cells}
 use Rattle.floor.specs.Refusals.{Spot, holds, offFloor}
-use Rattle.floor.specs.Way.{Graph, Only}
-use Rattle.floor.specs.Step.{stepsOf}
+use Rattle.steps.specs.Way.{Graph, Only}
+use Rattle.steps.specs.Step.{stepsOf}
 use Rattle.floor.specs.Calls.{spotCell, asks, routeRefused}
 use Rattle.floor.specs.Inner.{Sound}
 use Rattle.floor.proofs.Joined.{both-true}
-use Rattle.floor.proofs.Bound.{bound}
-use Rattle.floor.proofs.OnMap.{few-cells, on-floor}
+use Rattle.steps.proofs.Bound.{bound}
+use Rattle.steps.proofs.OnMap.{few-cells, on-floor}
 use Rattle.walking.specs.Legs.{Leg, Proper}
 use Rattle.walking.specs.Read.{Routes}
 use Rattle.walking.proofs.LegSteps.{stepsIn, route-steps}

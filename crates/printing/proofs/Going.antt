@@ -13,8 +13,10 @@ use Rattle.text.proofs.Puts.{put-then, none-put, length-put}
 use Rattle.printing.specs.declared.Printed.{Printed}
 use Rattle.printing.specs.Prints.{joined}
 use Rattle.printing.specs.Lines.{LineAt, LineCount}
-use Rattle.printing.specs.Shown.{lineRoom, Shown}
-use Rattle.printing.specs.Inner.{Writes, Progress}
+use Rattle.lines.specs.LineRoom.{lineRoom}
+use Rattle.printing.specs.Shown.{Shown}
+use Rattle.lines.specs.Written.{Writes}
+use Rattle.printing.specs.Inner.{Progress}
 
 joined-snoc : (ls : List (List ℕ)) (l : List ℕ) → joined (ls ++ (l ∷ [])) ≡ joined ls ++ l
 joined-snoc [] l = append-nil l

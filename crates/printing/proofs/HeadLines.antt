@@ -12,7 +12,7 @@ use Rattle.lengths.specs.Answers.{sizeOutside}
 use Rattle.floor.specs.Floor.{Map, mapOf}
 use Rattle.floor.specs.Refusals.{floorRefused}
 use Rattle.floor.specs.Inner.{Sound as FloorSound}
-use Rattle.floor.proofs.OnMap.{few-cells}
+use Rattle.steps.proofs.OnMap.{few-cells}
 use Rattle.floor.proofs.Tested.{accepted}
 use Rattle.plan.specs.declared.Plan.{Plan}
 use Rattle.plan.specs.declared.Query.{Query}
@@ -24,12 +24,13 @@ use Rattle.plan.specs.Reads.{planOf, readingGives, Reads, queryAt}
 use Rattle.plan.proofs.Places.{map-within, map-there, query-within, query-there}
 use Rattle.plan.proofs.Only.{gives-one}
 use Rattle.text.specs.Text.{line}
-use Rattle.printing.specs.declared.Head.{Head}
-use Rattle.printing.specs.declared.Head.the-variants as head
+use Rattle.lines.specs.declared.Head.{Head}
+use Rattle.lines.specs.declared.Head.the-variants as head
 use Rattle.printing.specs.Query.{QueryNumbers}
 use Rattle.printing.specs.Prints.{mapIn, orElse, planRefused}
 use Rattle.printing.specs.Lines.{noQuery, LineAt, LineCount}
-use Rattle.printing.specs.Inner.{QueryLine, Heads, Taken, Opened, sizeHead, headLine, countOf}
+use Rattle.lines.specs.Written.{headLine}
+use Rattle.printing.specs.Inner.{QueryLine, Heads, Taken, Opened, sizeHead, countOf}
 
 same-plan : {p q : Plan} → head.Floor p ≡ head.Floor q → q ≡ p
 same-plan e = cc

@@ -1,7 +1,5 @@
 pub mod FewLegs
 pub mod QueryAnswer
-pub mod Spoken
-pub mod WayLine
 pub mod HeadLines
 pub mod Going
 pub mod OneLine

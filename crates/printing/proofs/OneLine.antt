@@ -9,10 +9,10 @@ use Rattle.lengths.specs.declared.Length.{Length}
 use Rattle.lengths.specs.Distance.{Spoken}
 use Rattle.lengths.proofs.Rounding.{spoken-unique}
 use Rattle.floor.specs.Floor.{Map}
-use Rattle.floor.specs.Way.{Only}
-use Rattle.floor.specs.Step.{stepsOf}
+use Rattle.steps.specs.Way.{Only}
+use Rattle.steps.specs.Step.{stepsOf}
 use Rattle.floor.specs.Calls.{spotCell}
-use Rattle.floor.proofs.Ways.{shortest-unique}
+use Rattle.steps.proofs.Ways.{shortest-unique}
 use Rattle.plan.specs.declared.Query.{Query}
 use Rattle.plan.specs.Sound.{Contents}
 use Rattle.plan.proofs.Only.{not-both, one-break, one-contents}

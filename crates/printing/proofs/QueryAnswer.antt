@@ -10,11 +10,11 @@ use Rattle.given.specs.Given.{Given}
 use Rattle.given.proofs.Answering.{not-refused}
 use Rattle.lengths.specs.Distance.{Spoken}
 use Rattle.floor.specs.Floor.{Map, cells}
-use Rattle.floor.specs.Way.{Only}
-use Rattle.floor.specs.Step.{stepsOf}
+use Rattle.steps.specs.Way.{Only}
+use Rattle.steps.specs.Step.{stepsOf}
 use Rattle.floor.specs.Calls.{spotCell, routeRefused}
 use Rattle.floor.specs.Inner.{Sound}
-use Rattle.floor.proofs.OnMap.{small-shortest}
+use Rattle.steps.proofs.OnMap.{small-shortest}
 use Rattle.plan.specs.declared.Query.{Query}
 use Rattle.walking.specs.declared.Way.{Way}
 use Rattle.walking.specs.Legs.{bytes}
@@ -26,7 +26,8 @@ use Rattle.route.specs.declared.Refusal.{Refusal}
 use Rattle.route.specs.Answers.{answerGives, Routed, Finds}
 use Rattle.route.proofs.Unique.{answer-apart}
 use Rattle.printing.specs.Query.{startOf, goalOf, queryRefused, QueryNumbers}
-use Rattle.printing.specs.Inner.{WayFits, Fits, wayNumbers, AnswerLine, QueryLine}
+use Rattle.lines.specs.Written.{WayFits, Fits, wayNumbers, AnswerLine}
+use Rattle.printing.specs.Inner.{QueryLine}
 use Rattle.printing.proofs.FewLegs.{few-legs, goal-inside}
 
 numbers-apart : {g h : Given} → g ≡ h → g .number ≡ h .number

@@ -8,8 +8,8 @@ use Rattle.lengths.specs.declared.Length.{Length}
 use Rattle.lengths.specs.Distance.{Spoken}
 use Rattle.floor.specs.Floor.{Map, cells}
 use Rattle.floor.specs.Refusals.{Spot}
-use Rattle.floor.specs.Way.{Only, Reach}
-use Rattle.floor.specs.Step.{stepsOf}
+use Rattle.steps.specs.Way.{Only, Reach}
+use Rattle.steps.specs.Step.{stepsOf}
 use Rattle.floor.specs.Calls.{spotCell, routeRefused}
 use Rattle.plan.specs.declared.Query.{Query}
 use Rattle.walking.specs.Legs.{Leg, bytes}

@@ -5,17 +5,10 @@ use mathlib.Core.List.{List, []}
 use Prim.Native.Nat.{ℕ, _+_, _-_, _≤_, _<_}
 use lib.ListN.{length, getD, take}
 use Rattle.text.specs.Put.{Put}
+use Rattle.lines.specs.LineRoom.{lineRoom}
 use Rattle.printing.specs.declared.Printed.{Printed}
 use Rattle.printing.specs.Prints.{joined}
 use Rattle.printing.specs.Lines.{LineAt, LineCount}
-
--- room for a number and five fields
-abbrev pub lengthRoom : ℕ
-lengthRoom = 125
-
--- room for any line: a number, five fields, the headings and counts of 16,383 legs, and a newline
-abbrev pub lineRoom : ℕ
-lineRoom = 131190
 
 -- the lines from a number on, one after the other from the buffer's front, and nothing else changed: a line is written while there is
 -- room for any line, and the answer has the bytes and the lines that were written and the lines that are left

@@ -2,8 +2,8 @@
 ghost use mathlib.Core.Path.{_≡_};
 ghost use Prim.Native.Nat.{_≤_};
 ghost use Rattle.printing.specs.Inner.{Heads, Taken, sizeHead, countOf};
-use crate::Head;
 use floor::Accepted;
+use lines::Head;
 use plan::Plan;
 use plan::Reading;
 

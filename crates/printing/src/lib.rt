@@ -1,26 +1,21 @@
 // What "ways" prints for any input bytes: the lines that document 01 gives, as bytes in a lent buffer.
 ghost use mathlib.Core.Path.{_≡_};
 ghost use mathlib.Core.Bool.{false};
-ghost use mathlib.Core.List.{[], _∷_};
 ghost use Prim.Native.Nat.{_+_, _*_, _<_, _≤_};
 ghost use lib.ListN.{length};
 ghost use Rattle.io.specs.Counts.{Counts};
 ghost use Rattle.lengths.specs.Answers.{sizeOutside};
-ghost use Rattle.lengths.specs.Distance.{Spoken};
-ghost use Rattle.lengths.specs.Inner.{Within};
 ghost use Rattle.floor.specs.Floor.{mapOf};
 ghost use Rattle.floor.specs.Inner.{Sound};
-ghost use Rattle.text.specs.Text.{fields, line};
-ghost use Rattle.text.specs.Put.{Put};
-ghost use Rattle.printing.specs.declared.Head.the-variants as head;
+ghost use Rattle.lines.specs.declared.Head.the-variants as head;
+ghost use Rattle.lines.specs.LineRoom.{lineRoom};
+ghost use Rattle.lines.specs.Written.{Writes};
 ghost use Rattle.printing.specs.Lines.{LineAt};
-ghost use Rattle.printing.specs.Shown.{lengthRoom, lineRoom, Shown};
-ghost use Rattle.printing.specs.Inner.{PutLine, Writes, WayFits, Fits, lengthNumbers, wayNumbers, AnswerLine, QueryLine, Heads, headLine, countOf};
-use lengths::Distance;
+ghost use Rattle.printing.specs.Shown.{Shown};
+ghost use Rattle.printing.specs.Inner.{QueryLine, Heads, countOf};
+use lines::Head;
 use plan::Plan;
 use plan::Query;
-use route::Answer;
-use walking::Way;
 
 mod heads;
 
@@ -32,111 +27,6 @@ pub struct Printed {
     pub length: usize,
     pub lines: usize,
     pub left: usize,
-}
-
-// What the first line says: the place of a break, a refusal's number, or the floor.
-pub enum Head {
-    Broken(usize),
-    Refused(usize),
-    Floor(Plan),
-}
-
-// The word that begins a floor's line.
-const FLOOR_WORD: [u8; 5] = [102, 108, 111, 111, 114];
-
-// Writes a line of one number.
-fn put_one(out: &mut [u8], at: usize, n: usize) -> usize
-    requires { ⌜ at + lineRoom ≤ length (now out) ⌝ }
-    ensures { λ r. ⌜ PutLine (now (out .entry)) at (line (n ∷ [])) (now (out .exit)) r ⌝ }
-{
-    let next = text::put_number(out, at, n);
-    text::put_newline(out, next)
-}
-
-// Writes a line of two numbers.
-fn put_two(out: &mut [u8], at: usize, n: usize, m: usize) -> usize
-    requires { ⌜ at + lineRoom ≤ length (now out) ⌝ }
-    ensures { λ r. ⌜ PutLine (now (out .entry)) at (line (n ∷ m ∷ [])) (now (out .exit)) r ⌝ }
-{
-    let first = text::put_number(out, at, n);
-    let next = text::put_field(out, first, m);
-    text::put_newline(out, next)
-}
-
-// Writes the line "floor", width, height, cell size.
-fn put_floor(out: &mut [u8], at: usize, plan: Plan) -> usize
-    requires { ⌜ at + lineRoom ≤ length (now out) ⌝ }
-    ensures { λ r. ⌜ PutLine (now (out .entry)) at (headLine (head.Floor plan)) (now (out .exit)) r ⌝ }
-{
-    let word = text::put_word(out, at, &FLOOR_WORD);
-    let wide = text::put_field(out, word, plan.width);
-    let high = text::put_field(out, wide, plan.height);
-    let next = text::put_field(out, high, plan.size);
-    text::put_newline(out, next)
-}
-
-// Writes the fields of a way before its legs: the query's number, 0, straight, diagonal, centimetres, leg count.
-fn put_length(out: &mut [u8], at: usize, number: usize, centimetres: u32, way: Way) -> usize
-    requires { ⌜ at + lengthRoom ≤ length (now out) ⌝ }
-    ensures { λ r. ⌜ Put (now (out .entry)) at (fields (lengthNumbers number centimetres way)) (now (out .exit)) r ⌝ }
-    ensures { λ r. ⌜ r ≤ at + lengthRoom ⌝ }
-{
-    let first = text::put_number(out, at, number);
-    let done = text::put_field(out, first, 0);
-    let straight = text::put_field(out, done, way.length.straight as usize);
-    let diagonal = text::put_field(out, straight, way.length.diagonal as usize);
-    let spoken = text::put_field(out, diagonal, centimetres as usize);
-    text::put_field(out, spoken, way.legs)
-}
-
-// Writes the line of a way: the query's number, 0, straight, diagonal, centimetres, leg count, then heading and count of each leg.
-fn put_way(
-    out: &mut [u8],
-    at: usize,
-    number: usize,
-    centimetres: u32,
-    way: Way,
-    legs: &[u8],
-) -> usize
-    requires { ⌜ at + lineRoom ≤ length (now out) ⌝ }
-    requires { ⌜ WayFits way (now legs) ⌝ }
-    ensures { λ r. ⌜ PutLine (now (out .entry)) at (line (wayNumbers number centimetres way (now (legs .entry)))) (now (out .exit)) r ⌝ }
-{
-    let counted = put_length(out, at, number, centimetres, way);
-    let next = text::put_fields(out, counted, legs, 2 * way.legs);
-    text::put_newline(out, next)
-}
-
-// The centimetres of a length.
-fn centimetres_of(size: u32, way: Way) -> u32
-    requires { ⌜ sizeOutside size ≡ false ⌝ }
-    requires { ⌜ Within (way .length) ⌝ }
-    ensures { λ r. ⌜ Spoken size (way .length) r ⌝ }
-{
-    match lengths::distance_spoken(size, way.length) {
-        Distance::Centimetres(n) => n,
-        Distance::Refused(_) => 0,
-    }
-}
-
-// Writes the line of a query's answer.
-fn put_answer(
-    out: &mut [u8],
-    at: usize,
-    number: usize,
-    size: u32,
-    answer: Answer,
-    legs: &[u8],
-) -> usize
-    requires { ⌜ at + lineRoom ≤ length (now out) ⌝ }
-    requires { ⌜ sizeOutside size ≡ false ⌝ }
-    requires { ⌜ Fits answer (now legs) ⌝ }
-    ensures { λ r. ⌜ Writes (AnswerLine size number (now (legs .entry)) answer) (now (out .entry)) at (now (out .exit)) r ⌝ }
-{
-    match answer {
-        Answer::Way(way) => put_way(out, at, number, centimetres_of(size, way), way, legs),
-        Answer::Refused(refusal) => put_two(out, at, number, refusal.number as usize),
-    }
 }
 
 // Writes the line of a query: the table has an entry for each cell.
@@ -168,19 +58,7 @@ fn put_query(
         table,
         legs,
     );
-    put_answer(out, at, number, plan.size as u32, answer, legs)
-}
-
-// Writes the first line.
-fn put_head(out: &mut [u8], at: usize, head: Head) -> usize
-    requires { ⌜ at + lineRoom ≤ length (now out) ⌝ }
-    ensures { λ r. ⌜ PutLine (now (out .entry)) at (headLine head) (now (out .exit)) r ⌝ }
-{
-    match head {
-        Head::Broken(place) => put_two(out, at, 14, place),
-        Head::Refused(n) => put_one(out, at, n),
-        Head::Floor(plan) => put_floor(out, at, plan),
-    }
+    lines::put_answer(out, at, number, plan.size as u32, answer, legs)
 }
 
 // Writes the line of query `number`, from 1.
@@ -234,7 +112,7 @@ fn put_line(
     ensures { λ r. ⌜ Writes (LineAt (now (input .entry)) index) (now (out .entry)) at (now (out .exit)) r ⌝ }
 {
     if index == 0 {
-        return put_head(out, at, head);
+        return lines::put_head(out, at, head);
     }
     match head {
         Head::Broken(_) => at,

@@ -13,7 +13,7 @@ use Rattle.given.specs.Given.{Given, pick, either}
 use Rattle.lengths.specs.declared.Length.{Length}
 use Rattle.floor.specs.Floor.{Map, cells}
 use Rattle.floor.specs.Refusals.{Spot}
-use Rattle.floor.specs.Step.{stepsOf}
+use Rattle.steps.specs.Step.{stepsOf}
 use Rattle.floor.specs.Calls.{routeRefused}
 use Rattle.entries.proofs.OneTable.{filled-unique}
 use Rattle.table.proofs.Unique.{judged-once}

@@ -10,17 +10,17 @@ use lib.ListN.{length}
 use Rattle.given.specs.Given.{Given, refusal, Answered}
 use Rattle.given.proofs.Picked.{pick-else, first-most}
 use Rattle.given.proofs.Answering.{answer-refused, answer-done}
-use Rattle.floor.specs.declared.Ends.{Ends}
-use Rattle.floor.specs.declared.ToEnds.{ToEnds}
-use Rattle.floor.specs.declared.ToEnds.the-variants as toends
+use Rattle.calls.specs.declared.Ends.{Ends}
+use Rattle.calls.specs.declared.ToEnds.{ToEnds}
+use Rattle.calls.specs.declared.ToEnds.the-variants as toends
 use Rattle.floor.specs.Floor.{Map, cells}
 use Rattle.floor.specs.Refusals.{Spot, holds}
-use Rattle.floor.specs.Way.{Graph, Only}
-use Rattle.floor.specs.Step.{stepsOf}
+use Rattle.steps.specs.Way.{Graph, Only}
+use Rattle.steps.specs.Step.{stepsOf}
 use Rattle.floor.specs.Calls.{spotCell, asks, tableRefused, routeRefused}
-use Rattle.floor.specs.CallTests.{ReadyEnds, TestsEnds}
-use Rattle.floor.proofs.Called.{standing-inside}
-use Rattle.floor.proofs.OnMap.{few-cells, on-floor}
+use Rattle.calls.specs.CallTests.{ReadyEnds, TestsEnds}
+use Rattle.calls.proofs.Called.{standing-inside}
+use Rattle.steps.proofs.OnMap.{few-cells, on-floor}
 use Rattle.entries.specs.Filled.{Filled}
 use Rattle.entries.specs.Made.{Right, Judged}
 use Rattle.entries.proofs.Judging.{right-filled}

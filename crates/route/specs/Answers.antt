@@ -8,8 +8,8 @@ use lib.ListN.{length}
 use Rattle.given.specs.Given.{Given, refusal, done, pick, either, Answered}
 use Rattle.floor.specs.Floor.{Map, cells}
 use Rattle.floor.specs.Refusals.{Spot}
-use Rattle.floor.specs.Way.{Graph, Only}
-use Rattle.floor.specs.Step.{stepsOf}
+use Rattle.steps.specs.Way.{Graph, Only}
+use Rattle.steps.specs.Step.{stepsOf}
 use Rattle.floor.specs.Calls.{spotCell, routeRefused}
 use Rattle.entries.specs.Filled.{Filled}
 use Rattle.entries.specs.Made.{Right, Judged}

@@ -1,8 +1,8 @@
 -- What the parts of a call for a route answer, as the call's answer.
 -- Assumes nothing.
 use Prim.Native.Nat.{ℕ}
-use Rattle.floor.specs.declared.ToEnds.{ToEnds}
-use Rattle.floor.specs.declared.ToEnds.the-variants as toends
+use Rattle.calls.specs.declared.ToEnds.{ToEnds}
+use Rattle.calls.specs.declared.ToEnds.the-variants as toends
 use Rattle.table.specs.declared.CheckAnswer.{CheckAnswer}
 use Rattle.table.specs.declared.CheckAnswer.the-variants as check
 use Rattle.walking.specs.declared.Reading.{Reading}

@@ -4,7 +4,7 @@ ghost use Rattle.floor.specs.Floor.{mapOf};
 ghost use Rattle.floor.specs.Calls.{spotOf};
 ghost use Rattle.route.specs.Answers.{Finds, ReadsTable};
 ghost use Rattle.route.specs.Inner.{refusedAt, endsRefused, checkRefused, readAnswer};
-use floor::ToEnds;
+use calls::ToEnds;
 use table::CheckAnswer;
 use table::FillAnswer;
 use walking::Reading;
@@ -75,7 +75,7 @@ pub fn find_route(
 ) -> Answer
     ensures { λ r. ⌜ Finds (mapOf width height (now (map .entry))) (spotOf «from_column» «from_row») (spotOf column row) (now (table .entry)) (now (legs .entry)) r (now (table .exit)) (now (legs .exit)) ⌝ }
 {
-    let tested = floor::calls::test_ends(
+    let tested = calls::test_ends(
         width,
         height,
         map,
@@ -108,7 +108,7 @@ pub fn route_from_table(
 ) -> Answer
     ensures { λ r. ⌜ ReadsTable (mapOf width height (now (map .entry))) (spotOf «from_column» «from_row») (spotOf column row) (now (table .entry)) (now (legs .entry)) r (now (legs .exit)) ⌝ }
 {
-    let tested = floor::calls::test_ends(
+    let tested = calls::test_ends(
         width,
         height,
         map,

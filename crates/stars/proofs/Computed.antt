@@ -15,15 +15,16 @@ use Rattle.lengths.specs.Order.{shorter}
 use Rattle.lengths.specs.Distance.{Spoken}
 use Rattle.lengths.specs.Answers.{compareRefused, distanceRefused}
 use Rattle.lengths.proofs.Rounding.{spoken-unique}
-use Rattle.floor.specs.declared.Roomed.the-variants as roomed
+use Rattle.rooms.specs.declared.Roomed.the-variants as roomed
 use Rattle.floor.specs.Floor.{Map, both, cells}
-use Rattle.floor.specs.Inner.{Sound, leadOf}
+use Rattle.floor.specs.Inner.{Sound}
+use Rattle.steps.specs.Leading.{leadOf}
 use Rattle.floor.specs.Refusals.{floorRefused}
 use Rattle.floor.specs.Calls.{spotCell, tableRefused, routeRefused}
-use Rattle.floor.specs.Answers.{roomedGives, roomRefused}
-use Rattle.floor.specs.Room.{allBelow, roomOf}
-use Rattle.floor.specs.Step.{stepsOf}
-use Rattle.floor.specs.Way.{Only}
+use Rattle.rooms.specs.Answers.{roomedGives, roomRefused}
+use Rattle.rooms.specs.Room.{allBelow, roomOf}
+use Rattle.steps.specs.Step.{stepsOf}
+use Rattle.steps.specs.Way.{Only}
 use Rattle.floor.proofs.Joined.{both-true}
 use Rattle.floor.proofs.Tested.{accepted}
 use Rattle.entries.specs.Filled.{Filled}

@@ -9,13 +9,14 @@ use lib.Dec.{eqb, ltb}
 use lib.ListN.{getD, length}
 use Rattle.lengths.specs.declared.Length.{Length}
 use Rattle.lengths.specs.Order.{zeroLength, _⊕_}
-use Rattle.floor.specs.declared.Lead.{Lead}
-use Rattle.floor.specs.declared.Lead.the-variants.{To, Nowhere}
+use Rattle.steps.specs.declared.Lead.{Lead}
+use Rattle.steps.specs.declared.Lead.the-variants.{To, Nowhere}
 use Rattle.floor.specs.Floor.{Map, both, cells}
-use Rattle.floor.specs.Heading.{weight}
-use Rattle.floor.specs.Inner.{Sound, leadOf}
-use Rattle.floor.specs.Step.{stepsOf}
-use Rattle.floor.specs.Way.{Only}
+use Rattle.steps.specs.Heading.{weight}
+use Rattle.floor.specs.Inner.{Sound}
+use Rattle.steps.specs.Leading.{leadOf}
+use Rattle.steps.specs.Step.{stepsOf}
+use Rattle.steps.specs.Way.{Only}
 use Rattle.floor.proofs.Joined.{both-true}
 use Rattle.entries.specs.Filled.{Filled}
 use Rattle.walking.specs.declared.Reading.{Reading}

@@ -4,10 +4,10 @@ use mathlib.Core.Path.{refl}
 use Rattle.lengths.specs.Order.{over}
 use Rattle.lengths.specs.Answers.{partAbove, sizeOutside}
 use Rattle.floor.specs.Floor.{blocked, open?}
-use Rattle.floor.specs.Heading.{changes, changeOf}
-use Rattle.floor.specs.Inner.{openPast, permitted, leadOf}
+use Rattle.steps.specs.Heading.{changes, changeOf}
+use Rattle.steps.specs.Leading.{openPast, permitted, leadOf}
 use Rattle.floor.specs.Refusals.{sidesOutside, wrongLength, pastWidth, wrongTable, offFloor}
-use Rattle.floor.specs.Room.{topOf, bottomOf, columnOpen, leftOf, rightOf}
+use Rattle.rooms.specs.Room.{topOf, bottomOf, columnOpen, leftOf, rightOf}
 use Rattle.entries.specs.Entry.{read}
 use Rattle.walking.specs.Reading.{fits, next}
 use Rattle.stars.specs.Starred.{cases, All}

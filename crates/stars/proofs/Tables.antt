@@ -10,12 +10,14 @@ use borrow.Author.Tests.{eqb-true, eq-eqb, ltb-true, not-true}
 use lib.Dec.{eqb, ltb}
 use lib.ListN.{getD, length}
 use Rattle.floor.specs.Floor.{Map, both, cells}
-use Rattle.floor.specs.Inner.{Sound, leadOf}
-use Rattle.floor.specs.Room.{allBelow}
-use Rattle.floor.specs.Step.{stepsOf}
-use Rattle.floor.specs.Way.{Only}
-use Rattle.floor.proofs.Joined.{both-true, all-at}
-use Rattle.floor.proofs.OnMap.{few-cells, on-floor}
+use Rattle.floor.specs.Inner.{Sound}
+use Rattle.steps.specs.Leading.{leadOf}
+use Rattle.rooms.specs.Room.{allBelow}
+use Rattle.steps.specs.Step.{stepsOf}
+use Rattle.steps.specs.Way.{Only}
+use Rattle.floor.proofs.Joined.{both-true}
+use Rattle.rooms.proofs.All.{all-at}
+use Rattle.steps.proofs.OnMap.{few-cells, on-floor}
 use Rattle.entries.specs.Entry.{pack, malformed, entryAt}
 use Rattle.entries.specs.Best.{made}
 use Rattle.entries.specs.Filled.{Filled}

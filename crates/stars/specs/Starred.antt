@@ -10,11 +10,11 @@ use Rattle.lengths.specs.declared.Length.{Length}
 use Rattle.lengths.specs.declared.Compared.{Compared}
 use Rattle.lengths.specs.declared.Distance.{Distance}
 use Rattle.lengths.specs.Answers.{comparedGives, Compares, distanceGives, Speaks}
-use Rattle.floor.specs.declared.Roomed.{Roomed}
+use Rattle.rooms.specs.declared.Roomed.{Roomed}
 use Rattle.floor.specs.Floor.{Map, mapOf, cells}
 use Rattle.floor.specs.Refusals.{Spot}
 use Rattle.floor.specs.Calls.{spotOf}
-use Rattle.floor.specs.Answers.{roomedGives, Rooms}
+use Rattle.rooms.specs.Answers.{roomedGives, Rooms}
 use Rattle.entries.specs.Entry.{mark, long, pack}
 use Rattle.table.specs.declared.FillAnswer.{FillAnswer}
 use Rattle.table.specs.declared.CheckAnswer.{CheckAnswer}

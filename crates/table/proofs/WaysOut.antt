@@ -6,16 +6,16 @@ use Prim.Native.Nat.{ℕ, _≤_, _<_}
 use native.Mathlib.Omega.{arith}
 use lib.ListN.{length}
 use Rattle.given.proofs.Answering.{answer-refused, answer-done}
-use Rattle.floor.specs.declared.ToGoal.{ToGoal}
-use Rattle.floor.specs.declared.ToGoal.the-variants as togoal
+use Rattle.calls.specs.declared.ToGoal.{ToGoal}
+use Rattle.calls.specs.declared.ToGoal.the-variants as togoal
 use Rattle.floor.specs.Floor.{Map, cells}
 use Rattle.floor.specs.Refusals.{Spot}
-use Rattle.floor.specs.Way.{Only}
-use Rattle.floor.specs.Step.{stepsOf}
+use Rattle.steps.specs.Way.{Only}
+use Rattle.steps.specs.Step.{stepsOf}
 use Rattle.floor.specs.Inner.{Ready}
 use Rattle.floor.specs.Calls.{spotCell, tableRefused}
-use Rattle.floor.specs.CallTests.{Refuses, ReadyGoal, TestsGoal}
-use Rattle.floor.proofs.Called.{ready}
+use Rattle.calls.specs.CallTests.{Refuses, ReadyGoal, TestsGoal}
+use Rattle.calls.proofs.Called.{ready}
 use Rattle.entries.specs.Filled.{Filled}
 use Rattle.entries.specs.Made.{Right, Judged}
 use Rattle.table.specs.declared.FillAnswer.{FillAnswer}

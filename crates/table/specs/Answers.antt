@@ -7,8 +7,8 @@ use lib.ListN.{length}
 use Rattle.given.specs.Given.{Given, refusal, done, Answered}
 use Rattle.floor.specs.Floor.{Map, cells}
 use Rattle.floor.specs.Refusals.{Spot}
-use Rattle.floor.specs.Way.{Only}
-use Rattle.floor.specs.Step.{stepsOf}
+use Rattle.steps.specs.Way.{Only}
+use Rattle.steps.specs.Step.{stepsOf}
 use Rattle.floor.specs.Calls.{spotCell, tableRefused}
 use Rattle.entries.specs.Filled.{Filled}
 use Rattle.entries.specs.Made.{Right, Judged}

@@ -1,7 +1,7 @@
 -- A call's refusal, as filling's and as checking's.
 -- Assumes nothing.
-use Rattle.floor.specs.declared.ToGoal.{ToGoal}
-use Rattle.floor.specs.declared.ToGoal.the-variants as togoal
+use Rattle.calls.specs.declared.ToGoal.{ToGoal}
+use Rattle.calls.specs.declared.ToGoal.the-variants as togoal
 use Rattle.table.specs.declared.FillAnswer.{FillAnswer}
 use Rattle.table.specs.declared.FillAnswer.the-variants as fill
 use Rattle.table.specs.declared.CheckAnswer.{CheckAnswer}

@@ -4,7 +4,7 @@ ghost use Rattle.floor.specs.Floor.{mapOf};
 ghost use Rattle.floor.specs.Calls.{spotOf};
 ghost use Rattle.table.specs.Answers.{Fills, Checks};
 ghost use Rattle.table.specs.Inner.{fillRefusal, checkRefusal};
-use floor::ToGoal;
+use calls::ToGoal;
 
 // What filling answers: filled, or the refusal's number.
 pub enum FillAnswer {
@@ -40,7 +40,7 @@ pub fn fill(
 ) -> FillAnswer
     ensures { λ r. ⌜ Fills (mapOf width height (now (map .entry))) (spotOf column row) (now (table .entry)) r (now (table .exit)) ⌝ }
 {
-    let tested = floor::calls::test_goal(width, height, map, column, row, table.len());
+    let tested = calls::test_goal(width, height, map, column, row, table.len());
     let ToGoal::Goal(goal) = tested else {
         return fill_refusal(tested);
     };
@@ -69,7 +69,7 @@ pub fn check(
 ) -> CheckAnswer
     ensures { λ r. ⌜ Checks (mapOf width height (now (map .entry))) (spotOf column row) (now (table .entry)) r ⌝ }
 {
-    let tested = floor::calls::test_goal(width, height, map, column, row, table.len());
+    let tested = calls::test_goal(width, height, map, column, row, table.len());
     let ToGoal::Goal(goal) = tested else {
         return check_refusal(tested);
     };

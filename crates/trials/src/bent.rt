@@ -1,12 +1,12 @@
 // Calls that are to be refused: numbers, lengths and places bent out of what they may be, one or several at a time.
-use crate::random;
-use answers::left::BUFFERS;
-use answers::left::MAP;
-use answers::left::TABLES;
-use answers::tally;
-use answers::tally::COUNTS;
 use comparing::call;
 use comparing::call::Call;
+use makings::left::BUFFERS;
+use makings::left::MAP;
+use makings::left::TABLES;
+use makings::random;
+use makings::tally;
+use makings::tally::COUNTS;
 use solver::sheet::SCRATCH;
 
 // A number one more or one less, within 0 to 20,000.

@@ -1,11 +1,7 @@
-// What is tried on one floor, and over lengths: floors laid from numbers, their rooms, tables and routes, calls that are to be refused, and
-// faults that are planted.
+// What is tried on one floor, and over lengths: rooms, tables and routes, calls that are to be refused, and faults that are planted.
 //
 // Nothing is promised of what is found, but that every function ends, with no index out of range and no number that wraps.
 pub mod bent;
-pub mod floors;
 pub mod numbers;
 pub mod planted;
-pub mod random;
-mod tables;
 pub mod trial;

@@ -1,7 +1,7 @@
 // Comparisons of lengths, and distances.
-use crate::random;
-use answers::tally::COUNTS;
 use comparing::measures;
+use makings::random;
+use makings::tally::COUNTS;
 ghost use Prim.Native.Nat.{_<_};
 
 // A part of a length, from a number: small ones, ones around the limit, and any.

@@ -1,14 +1,14 @@
 // The comparisons tried themselves: calls of every kind, each with one fault planted in what the library said or left. Every one has to be
 // found to differ.
-use crate::floors;
-use answers::left::BUFFERS;
-use answers::left::MAP;
-use answers::left::TABLES;
-use answers::tally;
-use answers::tally::COUNTS;
 use comparing::call;
 use comparing::call::Call;
 use comparing::measures;
+use makings::floors;
+use makings::left::BUFFERS;
+use makings::left::MAP;
+use makings::left::TABLES;
+use makings::tally;
+use makings::tally::COUNTS;
 use solver::sheet::SCRATCH;
 
 // In how many places a fault can be planted in a call of a kind: in the number and four values, and in what it leaves.

@@ -1,14 +1,14 @@
 // What is tried on one floor: rooms, tables, checks of true and altered tables, and routes with leg buffers of several lengths.
-use crate::tables;
-use answers::left::BUFFERS;
-use answers::left::MAP;
-use answers::left::TABLES;
 use answers::said;
-use answers::tally;
-use answers::tally::COUNTS;
 use comparing::call;
 use comparing::call::Call;
 use comparing::measures;
+use makings::left::BUFFERS;
+use makings::left::MAP;
+use makings::left::TABLES;
+use makings::tables;
+use makings::tally;
+use makings::tally::COUNTS;
 use solver::sheet::SCRATCH;
 ghost use Prim.Native.Nat.{_≤_};
 

@@ -10,9 +10,10 @@ use Rattle.lengths.specs.declared.Length.{Length}
 use Rattle.lengths.specs.Order.{_⊕_}
 use Rattle.lengths.proofs.Order.{length-ext}
 use Rattle.floor.specs.Floor.{Map, cells}
-use Rattle.floor.specs.Inner.{Sound, leadOf}
-use Rattle.floor.specs.Step.{stepsOf}
-use Rattle.floor.specs.Way.{Only}
+use Rattle.floor.specs.Inner.{Sound}
+use Rattle.steps.specs.Leading.{leadOf}
+use Rattle.steps.specs.Step.{stepsOf}
+use Rattle.steps.specs.Way.{Only}
 use Rattle.entries.specs.Filled.{Filled}
 use Rattle.walking.specs.declared.Walker.{Walker}
 use Rattle.walking.specs.declared.Way.{Way}

@@ -11,9 +11,10 @@ use lib.ListN.{getD, length, drop}
 use Rattle.lengths.specs.declared.Length.{Length}
 use Rattle.lengths.specs.Order.{zeroLength}
 use Rattle.floor.specs.Floor.{Map, cells}
-use Rattle.floor.specs.Inner.{Sound, leadOf}
-use Rattle.floor.specs.Step.{stepsOf}
-use Rattle.floor.specs.Way.{Graph, Only, stay}
+use Rattle.floor.specs.Inner.{Sound}
+use Rattle.steps.specs.Leading.{leadOf}
+use Rattle.steps.specs.Step.{stepsOf}
+use Rattle.steps.specs.Way.{Graph, Only, stay}
 use Rattle.entries.specs.Filled.{Filled}
 use Rattle.walking.specs.declared.Reading.{Reading}
 use Rattle.walking.specs.declared.Reading.the-variants as reading

@@ -10,8 +10,8 @@ use native.Mathlib.Omega.{arith}
 use native.Mathlib.Decide.{decLe}
 use Rattle.lengths.specs.declared.Length.{Length}
 use Rattle.lengths.specs.Order.{zeroLength, _⊕_, steps}
-use Rattle.floor.specs.Way.{Graph, Way, stay, step, Shortest}
-use Rattle.floor.proofs.Ways.{shortest-unique, tail-shortest}
+use Rattle.steps.specs.Way.{Graph, Way, stay, step, Shortest}
+use Rattle.steps.proofs.Ways.{shortest-unique, tail-shortest}
 use Rattle.walking.specs.Route as walk
 use Rattle.walking.specs.Route.{Before, FirstRoute, ShortRoute, Walk}
 use Rattle.walking.proofs.Greedy.{OnShort, Follows, arrived, take, follows-shortest, goal-stays, goal-zero}

@@ -12,12 +12,12 @@ use Rattle.lengths.specs.declared.Length.{Length}
 use Rattle.lengths.specs.Order.{_⊕_}
 use Rattle.lengths.specs.Inner.{Within}
 use Rattle.lengths.proofs.Order.{length-ext}
-use Rattle.floor.specs.declared.Lead.{Lead}
-use Rattle.floor.specs.declared.Lead.the-variants.{To}
-use Rattle.floor.specs.Heading.{weight}
-use Rattle.floor.specs.Step.{one-step}
-use Rattle.floor.specs.Way.{Graph, Way, stay, step, Shortest}
-use Rattle.floor.proofs.Ways.{tail-shortest}
+use Rattle.steps.specs.declared.Lead.{Lead}
+use Rattle.steps.specs.declared.Lead.the-variants.{To}
+use Rattle.steps.specs.Heading.{weight}
+use Rattle.steps.specs.Step.{one-step}
+use Rattle.steps.specs.Way.{Graph, Way, stay, step, Shortest}
+use Rattle.steps.proofs.Ways.{tail-shortest}
 use Rattle.entries.specs.Entry.{long, pack, partsOf, malformed, read, entryAt}
 use Rattle.entries.specs.Filled.{Says}
 use Rattle.entries.proofs.Packing.{read-small, said-small, formed, pack-read}

@@ -8,8 +8,8 @@ use native.Mathlib.Omega.{arith}
 use Rattle.lengths.specs.declared.Length.{Length}
 use Rattle.lengths.specs.Order.{zeroLength, _⊕_, steps}
 use Rattle.lengths.proofs.Order.{zero-least}
-use Rattle.floor.specs.Way.{Graph, stay, Shortest}
-use Rattle.floor.proofs.Ways.{shortest-unique}
+use Rattle.steps.specs.Way.{Graph, stay, Shortest}
+use Rattle.steps.proofs.Ways.{shortest-unique}
 use Rattle.entries.specs.Entry.{Entry, mark, long}
 use Rattle.entries.specs.Filled.{Says}
 

@@ -8,8 +8,8 @@ use lib.ListN.{getD}
 use Rattle.lengths.specs.declared.Length.{Length}
 use Rattle.lengths.specs.Order.{zeroLength, _⊕_}
 use Rattle.lengths.proofs.Order.{length-ext}
-use Rattle.floor.specs.Way.{Graph}
-use Rattle.floor.proofs.Ways.{shortest-unique}
+use Rattle.steps.specs.Way.{Graph}
+use Rattle.steps.proofs.Ways.{shortest-unique}
 use Rattle.entries.specs.Entry.{Entry, mark, long, pack}
 use Rattle.entries.specs.Filled.{Says, Filled}
 use Rattle.walking.specs.Route as walk

@@ -9,7 +9,7 @@ use Rattle.lengths.specs.declared.Length.{Length}
 use Rattle.lengths.specs.Order.{_⊕_}
 use Rattle.lengths.proofs.Order.{length-ext}
 use Rattle.floor.specs.Floor.{Map}
-use Rattle.floor.specs.Inner.{leadOf}
+use Rattle.steps.specs.Leading.{leadOf}
 use Rattle.walking.specs.declared.Walker.{Walker}
 use Rattle.walking.specs.declared.WalkedLeg.{WalkedLeg}
 use Rattle.walking.specs.Legs.{Leg, Legs}

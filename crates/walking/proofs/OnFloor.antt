@@ -10,13 +10,14 @@ use native.Mathlib.Nat.{mul-le-mul}
 use native.Mathlib.Decide.{ℕ-discrete}
 use lib.ListN.{getD}
 use Rattle.lengths.specs.declared.Length.{Length}
-use Rattle.floor.specs.declared.Lead.the-variants.{To}
+use Rattle.steps.specs.declared.Lead.the-variants.{To}
 use Rattle.floor.specs.Floor.{Map, cells}
-use Rattle.floor.specs.Inner.{Sound, leadOf}
-use Rattle.floor.specs.Step.{stepsOf}
-use Rattle.floor.specs.Way.{Reach, Only}
-use Rattle.floor.proofs.Grid.{inside, back, one-way}
-use Rattle.floor.proofs.Leads.{floor, to-step, from-step}
+use Rattle.floor.specs.Inner.{Sound}
+use Rattle.steps.specs.Leading.{leadOf}
+use Rattle.steps.specs.Step.{stepsOf}
+use Rattle.steps.specs.Way.{Reach, Only}
+use Rattle.steps.proofs.Grid.{inside, back, one-way}
+use Rattle.steps.proofs.Leads.{floor, to-step, from-step}
 use Rattle.entries.specs.Entry.{Entry, mark, long, pack, malformed, read, entryAt}
 use Rattle.entries.specs.Filled.{Says, Filled}
 use Rattle.entries.proofs.Packing.{read-mark, pack-read}

@@ -15,10 +15,10 @@ use lib.ListN.{getD}
 use Rattle.given.specs.Given.{pick}
 use Rattle.lengths.specs.declared.Length.{Length}
 use Rattle.lengths.specs.Order.{zeroLength, _⊕_}
-use Rattle.floor.specs.declared.Lead.{Lead}
-use Rattle.floor.specs.declared.Lead.the-variants.{To, Nowhere}
-use Rattle.floor.specs.Heading.{weight}
-use Rattle.floor.specs.Step.{one-step}
+use Rattle.steps.specs.declared.Lead.{Lead}
+use Rattle.steps.specs.declared.Lead.the-variants.{To, Nowhere}
+use Rattle.steps.specs.Heading.{weight}
+use Rattle.steps.specs.Step.{one-step}
 use Rattle.walking.specs.Reading.{Order, Run, done, more, cost, fits, fitsLead, next, seek}
 
 -- what a step costs

@@ -6,12 +6,12 @@ use mathlib.Core.List.{List, [], _∷_}
 use Prim.Native.Nat.{ℕ, zero, suc, _+_, _%_, _/_, _≤_, _<_}
 use native.Mathlib.Omega.{arith}
 use Rattle.lengths.specs.declared.Length.{Length}
-use Rattle.floor.specs.Heading.{changes, changeOf}
+use Rattle.steps.specs.Heading.{changes, changeOf}
 use Rattle.floor.specs.Floor.{Map}
 use Rattle.floor.specs.Inner.{Sound}
-use Rattle.floor.specs.Step.{Moved, stepsOf}
-use Rattle.floor.proofs.Grid.{Floor, graph, eight}
-use Rattle.floor.proofs.Leads.{floor}
+use Rattle.steps.specs.Step.{Moved, stepsOf}
+use Rattle.steps.proofs.Grid.{Floor, graph, eight}
+use Rattle.steps.proofs.Leads.{floor}
 use Rattle.walking.specs.Route as walk
 use Rattle.walking.specs.Route.{Walk}
 use Rattle.walking.specs.Legs.{Leg, Proper, again, join}

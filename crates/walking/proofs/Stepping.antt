@@ -9,11 +9,12 @@ use lib.ListN.{getD}
 use Rattle.lengths.specs.declared.Length.{Length}
 use Rattle.lengths.specs.Order.{_⊕_, steps}
 use Rattle.lengths.proofs.Order.{length-ext}
-use Rattle.floor.specs.declared.Lead.the-variants.{To, Nowhere}
+use Rattle.steps.specs.declared.Lead.the-variants.{To, Nowhere}
 use Rattle.floor.specs.Floor.{Map}
-use Rattle.floor.specs.Heading.{weight}
-use Rattle.floor.specs.Inner.{Sound, leadOf}
-use Rattle.floor.specs.Step.{one-step}
+use Rattle.steps.specs.Heading.{weight}
+use Rattle.floor.specs.Inner.{Sound}
+use Rattle.steps.specs.Leading.{leadOf}
+use Rattle.steps.specs.Step.{one-step}
 use Rattle.walking.specs.declared.Walker.{Walker}
 use Rattle.walking.specs.Legs.{again}
 use Rattle.walking.specs.Reading.{Order, Run, done, more, cost, fits, next, Stands, Steps, Stepped, Split, Going, Leads}

@@ -9,9 +9,9 @@ use denote.Ref.{now}
 use lib.ListN.{length, drop}
 use Rattle.lengths.specs.declared.Length.{Length}
 use Rattle.floor.specs.Floor.{Map}
-use Rattle.floor.specs.Step.{stepsOf}
-use Rattle.floor.specs.Way.{Reach}
-use Rattle.floor.proofs.Ways.{shortest-unique}
+use Rattle.steps.specs.Step.{stepsOf}
+use Rattle.steps.specs.Way.{Reach}
+use Rattle.steps.proofs.Ways.{shortest-unique}
 use Rattle.walking.specs.declared.Reading.{Reading}
 use Rattle.walking.specs.declared.Reading.the-variants as reading
 use Rattle.walking.specs.declared.Way.{Way}

@@ -5,7 +5,7 @@ use mathlib.Core.List.{List, _++_}
 use Prim.Native.Nat.{ℕ, _*_, _≤_, _<_}
 use lib.ListN.{length, drop}
 use Rattle.lengths.specs.declared.Length.{Length}
-use Rattle.floor.specs.Way.{Graph, Reach}
+use Rattle.steps.specs.Way.{Graph, Reach}
 use Rattle.walking.specs.declared.Reading.{Reading}
 use Rattle.walking.specs.declared.Reading.the-variants as reading
 use Rattle.walking.specs.declared.Way.{Way}

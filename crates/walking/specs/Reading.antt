@@ -10,11 +10,11 @@ use lib.ListN.{getD, length, drop}
 use Rattle.given.specs.Given.{pick}
 use Rattle.lengths.specs.declared.Length.{Length}
 use Rattle.lengths.specs.Order.{zeroLength, _⊕_, steps}
-use Rattle.floor.specs.declared.Lead.{Lead}
-use Rattle.floor.specs.declared.Lead.the-variants.{To, Nowhere}
+use Rattle.steps.specs.declared.Lead.{Lead}
+use Rattle.steps.specs.declared.Lead.the-variants.{To, Nowhere}
 use Rattle.floor.specs.Floor.{Map, cells}
-use Rattle.floor.specs.Heading.{weight}
-use Rattle.floor.specs.Inner.{leadOf}
+use Rattle.steps.specs.Heading.{weight}
+use Rattle.steps.specs.Leading.{leadOf}
 use Rattle.entries.specs.Entry.{long, pack}
 use Rattle.walking.specs.declared.Walker.{Walker}
 use Rattle.walking.specs.declared.WalkedLeg.{WalkedLeg}

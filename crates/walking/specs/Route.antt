@@ -5,7 +5,7 @@ use mathlib.Core.List.{List, [], _∷_}
 use Prim.Native.Nat.{ℕ, _<_}
 use Rattle.lengths.specs.declared.Length.{Length}
 use Rattle.lengths.specs.Order.{zeroLength, _⊕_}
-use Rattle.floor.specs.Way.{Graph, Shortest}
+use Rattle.steps.specs.Way.{Graph, Shortest}
 
 -- the headings hs lead from x to y by permitted steps, over the length l
 pub data Walk (G : Graph) : ℕ → ℕ → List ℕ → Length → Type 0 where

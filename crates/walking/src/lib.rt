@@ -4,16 +4,17 @@ ghost use Prim.Native.Nat.{_+_, _*_, _<_, _≤_};
 ghost use lib.ListN.{length, set};
 ghost use Rattle.lengths.specs.Order.{_⊕_, steps};
 ghost use Rattle.floor.specs.Floor.{mapOf};
-ghost use Rattle.floor.specs.Heading.{weight};
-ghost use Rattle.floor.specs.Inner.{Sound, leadOf};
-ghost use Rattle.floor.specs.Step.{stepsOf};
-ghost use Rattle.floor.specs.Way.{Only};
+ghost use Rattle.steps.specs.Heading.{weight};
+ghost use Rattle.floor.specs.Inner.{Sound};
+ghost use Rattle.steps.specs.Leading.{leadOf};
+ghost use Rattle.steps.specs.Step.{stepsOf};
+ghost use Rattle.steps.specs.Way.{Only};
 ghost use Rattle.entries.specs.Filled.{Filled};
 ghost use Rattle.walking.specs.Read.{Reads};
 ghost use Rattle.walking.specs.Reading.{numbered, cost, fits, next};
 ghost use Rattle.walking.specs.Reading.{Stands, Starts, Stepped, Leads, Counted, Room, Written};
-use floor::Lead;
 use lengths::Length;
+use steps::Lead;
 
 // The mark: the entry of a cell without a way to the goal.
 const MARK: u32 = 4294967295;
@@ -75,7 +76,7 @@ fn fits_step(
     requires { ⌜ (length (now table) ≡ height * width) × ((cell < height * width) × (heading < 8)) ⌝ }
     ensures { λ r. ⌜ r ≡ fits (leadOf (mapOf width height (now (map .entry)))) (now (table .entry)) cell heading ⌝ }
 {
-    let Lead::To(to) = floor::steps::lead_of(width, height, map, heading, cell) else {
+    let Lead::To(to) = steps::lead_of(width, height, map, heading, cell) else {
         return false;
     };
     let here = wide(table[cell]);
@@ -144,7 +145,7 @@ impl Walker {
         if 8 <= self.next {
             return self;
         }
-        let Lead::To(cell) = floor::steps::lead_of(width, height, map, self.next, self.cell) else {
+        let Lead::To(cell) = steps::lead_of(width, height, map, self.next, self.cell) else {
             return self;
         };
         let length = one_more(self.length, self.next);

@@ -10,9 +10,9 @@ use lib.ListN.{length, set, length-set}
 use Rattle.lengths.specs.declared.Length.{Length}
 use Rattle.lengths.proofs.Keys.{straightKey, diagonalKey, key, straightOf, diagonalOf, pair-back}
 use Rattle.entries.specs.Entry.{mark, pack}
-use Rattle.waves.specs.Work.{unreached, span, at, spot}
+use Rattle.offers.specs.Work.{unreached, span, at, spot}
 use Rattle.waves.specs.Store.{keyOf, entryOf, Keyed, Readable, Stored}
-use Rattle.waves.proofs.Changed.{each}
+use Rattle.offers.proofs.Changed.{each}
 use Rattle.waves.proofs.Shortest.{Kind, shut, waits, reached, kind}
 use Rattle.waves.proofs.Kept.{CellsStored, RowsStored}
 

@@ -1,16 +1,5 @@
-pub mod Numbers
-pub mod Changed
-pub mod OneOffer
-pub mod Turns
-pub mod OneStep
-pub mod SideCells
+pub mod Adds
 pub mod Kept
-pub mod ManySteps
-pub mod LatePass
-pub mod ThisPass
-pub mod FirstWave
-pub mod NextWave
-pub mod LastWave
 pub mod OnWork
 pub mod Shortest
 pub mod MapLoaded

@@ -11,11 +11,12 @@ use lib.ListN.{getD, length, set, length-set}
 use lib.Dec.{ltb, eqb}
 use borrow.Author.Tests.{lt-ltb, le-ltb}
 use Rattle.floor.specs.Floor.{Map, bytesPerRow, bit, blocked, open?, both}
-use Rattle.floor.specs.Inner.{openPast, Sound}
-use Rattle.floor.proofs.Grid.{eight}
-use Rattle.waves.specs.Work.{unreached, stride, at, spot}
+use Rattle.steps.specs.Leading.{openPast}
+use Rattle.floor.specs.Inner.{Sound}
+use Rattle.steps.proofs.Grid.{eight}
+use Rattle.offers.specs.Work.{unreached, stride, at, spot}
 use Rattle.waves.specs.Load.{numberOf, loaded, Run, Prefix, Cleared, Tall}
-use Rattle.waves.proofs.Changed.{each}
+use Rattle.offers.proofs.Changed.{each}
 use Rattle.waves.proofs.Kept.{CellsLoaded, BitsLoaded, RowsLoaded}
 
 -- the bit of the cell in column c and row r

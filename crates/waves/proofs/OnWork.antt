@@ -4,11 +4,11 @@ use mathlib.Core.Path.{_≡_, sym, subst, subst₂}
 use mathlib.Core.List.{List}
 use Prim.Native.Nat.{ℕ, _+_, _%_, _≤_, _<_}
 use native.Mathlib.Omega.{arith}
-use Rattle.floor.specs.Heading.{changeOf}
-use Rattle.floor.specs.Step.{Step}
-use Rattle.floor.proofs.Grid.{Floor}
-use Rattle.waves.specs.Work.{stride, at, spot, beside, across, WorkStep}
-use Rattle.waves.proofs.Turns.{turned}
+use Rattle.steps.specs.Heading.{changeOf}
+use Rattle.steps.specs.Step.{Step}
+use Rattle.steps.proofs.Grid.{Floor}
+use Rattle.offers.specs.Work.{stride, at, spot, beside, across, WorkStep}
+use Rattle.offers.proofs.Turns.{turned, also}
 
 -- the floor f stands in the work array x
 pub record Mapped (f : Floor) (x : List ℕ) : Type 0 where
@@ -25,10 +25,6 @@ spot-column c r c′ r′ a b e = omega arith
 
 pub spot-row : (c r c′ r′ : ℕ) → c < stride → c′ < stride → spot c r ≡ spot c′ r′ → r ≡ r′
 spot-row c r c′ r′ a b e = omega arith
-
--- a place is open by any name
-pub also : (floor : List ℕ) (y z : ℕ) → y ≡ z → 0 < at floor y → 0 < at floor z
-also floor y z e o = subst (λ (i : ℕ). 0 < at floor i) e o
 
 -- a step can be walked back
 pub back : (floor : List ℕ) (h a b : ℕ) → stride + 1 ≤ a → stride + 1 ≤ b → WorkStep floor h a b → WorkStep floor ((h + 4) % 8) b a

@@ -12,17 +12,18 @@ use native.Mathlib.Decide.{decLe, ℕ-discrete}
 use Rattle.lengths.specs.declared.Length.{Length}
 use Rattle.lengths.specs.Order.{zeroLength, _⊕_, _⊑_}
 use Rattle.lengths.proofs.Keys.{straightKey, diagonalKey, key, key-order, pair, pair-back}
-use Rattle.floor.specs.Heading.{weight, byParity}
-use Rattle.floor.specs.Way.{Only}
-use Rattle.floor.proofs.Grid.{Floor, graph, cell, cell-column, cell-row}
+use Rattle.steps.specs.Heading.{weight, byParity}
+use Rattle.steps.specs.Way.{Only}
+use Rattle.steps.proofs.Grid.{Floor, graph, cell, cell-column, cell-row}
 use Rattle.entries.specs.Entry.{Entry, mark, long}
 use Rattle.entries.specs.Filled.{Says}
 use Rattle.entries.specs.Made.{Least, Made}
 use Rattle.entries.proofs.Neighbours.{no-mark, long-inj, sound}
-use Rattle.waves.specs.Work.{unreached, stride, span, stepped, at, spot, WorkStep}
-use Rattle.waves.specs.Solved.{Found, Solved}
+use Rattle.offers.specs.Work.{unreached, stride, span, stepped, at, spot, WorkStep}
+use Rattle.passes.specs.Solved.{Found, Solved}
 use Rattle.waves.specs.Store.{keyOf, entryBy, entryOf, Keyed}
-use Rattle.waves.proofs.Numbers.{like, stretch, steps-add, key-monotone}
+use Rattle.offers.proofs.Numbers.{like, stretch}
+use Rattle.waves.proofs.Adds.{steps-add, key-monotone}
 use Rattle.waves.proofs.OnWork.{Mapped, spot-column, spot-row, back, to-work, from-work, opens}
 
 -- what a number can be

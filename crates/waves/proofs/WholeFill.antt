@@ -13,17 +13,17 @@ use lib.Seq.{getD-set-same}
 use lib.Dec.{T as Holds}
 use borrow.Author.Tests.{lt-ltb}
 use Rattle.floor.specs.Floor.{Map, open?, cells}
-use Rattle.floor.specs.Inner.{openPast}
-use Rattle.floor.specs.Step.{stepsOf}
-use Rattle.floor.specs.Way.{Only}
-use Rattle.floor.proofs.Leads.{open-column, open-row, floor, Past, past}
+use Rattle.steps.specs.Leading.{openPast}
+use Rattle.steps.specs.Step.{stepsOf}
+use Rattle.steps.specs.Way.{Only}
+use Rattle.steps.proofs.Leads.{open-column, open-row, floor, Past, past}
 use Rattle.entries.specs.Filled.{Filled}
-use Rattle.waves.specs.Work.{unreached, stride, largest, span, at, spot, Inside}
-use Rattle.waves.specs.Solved.{Loaded, Solved}
+use Rattle.offers.specs.Work.{unreached, stride, largest, span, at, spot, Inside}
+use Rattle.passes.specs.Solved.{Loaded, Solved}
 use Rattle.waves.specs.Load.{numberOf, loaded, Prefix}
 use Rattle.waves.specs.Store.{entryOf, Storable, Stored}
 use Rattle.waves.specs.Fill.{Fillable, Scratch}
-use Rattle.waves.proofs.Changed.{each}
+use Rattle.offers.proofs.Changed.{each}
 use Rattle.waves.proofs.OnWork.{Mapped}
 use Rattle.waves.proofs.Shortest.{keyed, says}
 use Rattle.waves.proofs.MapLoaded.{prefix-all}

@@ -6,7 +6,7 @@ use Prim.Native.Nat.{ℕ, _+_, _/_, _%_, _≤_, _<_}
 use lib.ListN.{length}
 use Rattle.floor.specs.Floor.{Map, Open, cells}
 use Rattle.floor.specs.Inner.{Sound}
-use Rattle.waves.specs.Work.{largest}
+use Rattle.offers.specs.Work.{largest}
 use Rattle.waves.specs.Load.{Tall, Cleared}
 
 -- the goal is a cell of the floor, and open

@@ -6,8 +6,9 @@ use mathlib.Core.List.{List}
 use Prim.Native.Nat.{ℕ, _+_, _*_, _/_, _%_, _≤_, _<_}
 use lib.ListN.{length}
 use Rattle.floor.specs.Floor.{Map}
-use Rattle.floor.specs.Inner.{openPast, Sound}
-use Rattle.waves.specs.Work.{unreached, stride, at}
+use Rattle.steps.specs.Leading.{openPast}
+use Rattle.floor.specs.Inner.{Sound}
+use Rattle.offers.specs.Work.{unreached, stride, at}
 
 -- the number of an open and of a blocked cell
 abbrev pub numberOf : Bool → ℕ

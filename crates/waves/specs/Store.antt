@@ -8,7 +8,7 @@ use lib.ListN.{getD, length}
 use Rattle.lengths.specs.declared.Length.{Length}
 use Rattle.lengths.proofs.Keys.{straightKey, key, pair}
 use Rattle.entries.specs.Entry.{Entry, mark, long, pack}
-use Rattle.waves.specs.Work.{unreached, stride, span, highest, at, spot}
+use Rattle.offers.specs.Work.{unreached, stride, span, highest, at, spot}
 
 -- the key that a number stands for, one straight step more than the key of its length
 abbrev pub keyOf : ℕ → ℕ

@@ -3,10 +3,10 @@ ghost use mathlib.Core.Path.{_≡_};
 ghost use Prim.Native.Nat.{_+_, _-_, _*_, _<_};
 ghost use Rattle.floor.specs.Floor.{mapOf, bit};
 ghost use Rattle.floor.specs.Inner.{Sound};
-ghost use Rattle.waves.specs.Work.{unreached, spot};
+ghost use Rattle.offers.specs.Work.{unreached, spot};
 ghost use Rattle.waves.specs.Load.{Run, Prefix};
-use crate::STRIDE;
-use crate::UNREACHED;
+use offers::STRIDE;
+use offers::UNREACHED;
 
 // A bit of the byte's complement: 1 if its cell is open.
 fn open_bit(byte: u8, place: usize) -> u32

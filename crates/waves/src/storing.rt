@@ -5,9 +5,9 @@ ghost use lib.ListN.{length};
 ghost use Rattle.lengths.proofs.Keys.{straightKey};
 ghost use Rattle.entries.specs.Entry.{pack};
 ghost use Rattle.waves.specs.Store.{entryOf, Readable, Storable, Stored};
-use crate::STRAIGHT;
-use crate::STRIDE;
-use crate::UNREACHED;
+use offers::STRAIGHT;
+use offers::STRIDE;
+use offers::UNREACHED;
 
 // The mark: a blocked cell, or an open one without a way to the goal.
 const MARK: u32 = 4294967295;

@@ -2,7 +2,8 @@
 -- Assumes nothing.
 use mathlib.Core.Path.{ap}
 use native.Mathlib.Omega.{arith}
-use Rattle.printing.specs.Inner.{headLine, countOf}
+use Rattle.lines.specs.Written.{headLine}
+use Rattle.printing.specs.Inner.{countOf}
 use Rattle.printing.proofs.HeadLines.{head-first}
 use borrow.Author.Needs.{needs}
 use Rattle.printing.proofs.put_line.Statement.{statement}

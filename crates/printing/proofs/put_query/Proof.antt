@@ -1,7 +1,7 @@
 -- `printing::put_query` meets its contract: what finding a route answered is what the query's line says.
 -- Assumes nothing.
 use native.Mathlib.Omega.{arith}
-use Rattle.printing.proofs.WayLine.{size-small}
+use Rattle.lines.proofs.WayLine.{size-small}
 use Rattle.printing.proofs.QueryAnswer.{fits, query-line}
 use borrow.Author.Needs.{needs}
 use Rattle.printing.proofs.put_query.Statement.{statement}

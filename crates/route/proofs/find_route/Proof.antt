@@ -4,8 +4,8 @@ use borrow.Author.Needs.{needs}
 use lib.ListN.{length}
 use Rattle.floor.specs.Floor.{mapOf}
 use Rattle.floor.specs.Calls.{spotOf}
-use Rattle.floor.specs.CallTests.{ReadyEnds}
-use Rattle.floor.proofs.Called.{standing-inside}
+use Rattle.calls.specs.CallTests.{ReadyEnds}
+use Rattle.calls.proofs.Called.{standing-inside}
 use Rattle.route.proofs.WaysOut.{ends-set, find-refused, fill-never, filled, find-done}
 use Rattle.route.proofs.find_route.Statement.{statement}
 use Rattle.route.proofs.find_route.Tie as tie

@@ -11,8 +11,8 @@ use borrow.Author.Needs.{needs}
 use lib.ListN.{length}
 use Rattle.floor.specs.Floor.{mapOf}
 use Rattle.floor.specs.Calls.{spotOf}
-use Rattle.floor.specs.CallTests.{ReadyEnds}
-use Rattle.floor.proofs.Called.{standing-inside}
+use Rattle.calls.specs.CallTests.{ReadyEnds}
+use Rattle.calls.proofs.Called.{standing-inside}
 use Rattle.route.proofs.WaysOut.{ends-set, read-refused, check-wrong, table-filled, read-done}
 use Rattle.route.proofs.route_from_table.Statement.{statement}
 use Rattle.route.proofs.route_from_table.Tie as tie

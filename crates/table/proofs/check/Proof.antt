@@ -4,7 +4,7 @@ use borrow.Author.Needs.{needs}
 use lib.ListN.{length}
 use Rattle.floor.specs.Floor.{mapOf}
 use Rattle.floor.specs.Calls.{spotOf}
-use Rattle.floor.specs.CallTests.{ReadyGoal}
+use Rattle.calls.specs.CallTests.{ReadyGoal}
 use Rattle.table.proofs.WaysOut.{goal-ready, goal-set, check-refused, check-differs, check-right}
 use Rattle.table.proofs.check.Statement.{statement}
 use Rattle.table.proofs.check.Tie as tie

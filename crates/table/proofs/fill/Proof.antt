@@ -3,7 +3,7 @@
 use borrow.Author.Needs.{needs}
 use Rattle.floor.specs.Floor.{mapOf}
 use Rattle.floor.specs.Calls.{spotOf}
-use Rattle.floor.specs.CallTests.{ReadyGoal}
+use Rattle.calls.specs.CallTests.{ReadyGoal}
 use Rattle.table.proofs.WaysOut.{goal-ready, goal-set, fill-refused, fill-done}
 use Rattle.table.proofs.fill.Statement.{statement}
 use Rattle.table.proofs.fill.Tie as tie

@@ -5,7 +5,7 @@ use Prim.Native.Nat.{_-_}
 use borrow.Author.Needs.{needs}
 use native.Mathlib.Omega.{arith}
 use Rattle.floor.specs.Floor.{mapOf}
-use Rattle.floor.specs.Inner.{leadOf}
+use Rattle.steps.specs.Leading.{leadOf}
 use Rattle.walking.specs.Reading.{numbered, fits, next, seek}
 use Rattle.walking.proofs.Searching.{seek-found, seek-goes, seek-none}
 use Rattle.walking.proofs.next_heading.Statement.{statement}

@@ -6,7 +6,7 @@ use Prim.Native.Nat.{_/_, _%_, _<_}
 use native.Mathlib.Omega.{arith}
 use lib.ListN.{length-set}
 use borrow.Author.Needs.{needs}
-use Rattle.waves.specs.Work.{largest, spot}
+use Rattle.offers.specs.Work.{largest, spot}
 use Rattle.waves.proofs.MapLoaded.{prefix-none}
 use Rattle.waves.proofs.WholeFill.{goal-on, ready, storable, filled}
 use Rattle.waves.proofs.fill_in.Statement.{statement}

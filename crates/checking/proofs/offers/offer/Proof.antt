@@ -4,9 +4,9 @@ use mathlib.Core.Path.{ap, ap₂, _∙_}
 use Prim.Native.Nat.{ℕ, _%_}
 use native.Mathlib.Omega.{arith}
 use borrow.Author.Needs.{needs}
-use Rattle.floor.specs.declared.Change.{Change}
-use Rattle.floor.specs.Step.{one-step}
-use Rattle.floor.proofs.Headings.{change-small}
+use Rattle.steps.specs.declared.Change.{Change}
+use Rattle.steps.specs.Step.{one-step}
+use Rattle.steps.proofs.Headings.{change-small}
 use Rattle.checking.specs.Window.{offeredIn}
 use Rattle.checking.proofs.offers.offer.Statement.{statement}
 use Rattle.checking.proofs.offers.offer.Tie as tie

@@ -1,0 +1,22 @@
+-- `floor::calls::ends_refusal` meets its contract: the refusal's number is handed on.
+-- Assumes nothing.
+use mathlib.Core.Path.{sym, ap}
+use borrow.Author.Needs.{needs}
+use Rattle.calls.specs.CallTests.{endsRefusal}
+use Rattle.calls.proofs.ends_refusal.Statement.{statement}
+use Rattle.calls.proofs.ends_refusal.Tie as tie
+
+enum-told : tie.Need-enum-told
+enum-told c = search needs
+
+enum-known-a : tie.Need-enum-known-a
+enum-known-a c = search needs
+
+returns : tie.Need-returns
+returns c = search needs
+
+returns-2 : tie.Need-returns-2
+returns-2 c = ap endsRefusal (sym (c .before .a .given .1))
+
+pub ends-refusal-spec : {M : Type 1} → statement M
+ends-refusal-spec = tie.close (tie.spec enum-told enum-known-a returns returns-2)

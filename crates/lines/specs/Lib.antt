@@ -1,0 +1,2 @@
+pub mod LineRoom
+pub mod Written

@@ -1,0 +1,112 @@
+-- `offers::cell_steps` meets its contract. The invariant: the steps with the headings before this one were taken, and the mask that is kept is
+-- that of the side cell behind.
+-- Assumes nothing.
+use mathlib.Core.Path.{refl, _∙_}
+use Prim.Native.Nat.{_-_}
+use native.Mathlib.Omega.{arith}
+use borrow.Author.Needs.{needs}
+use Rattle.offers.proofs.Changed.{made-size}
+use Rattle.offers.proofs.Turns.{in-work}
+use Rattle.offers.proofs.Kept.{Headings}
+use Rattle.offers.proofs.ManySteps.{headings-none, headings-more, headings-all}
+use Rattle.offers.proofs.cell_steps.Statement.{statement}
+use Rattle.offers.proofs.cell_steps.Tie as tie
+
+abbrev Inv-loop : tie.InvT-loop
+Inv-loop work₀ queue₀ tail from number straight diagonal north side₀ end₀ heading₀ work queue side end heading =
+    Headings from number (north .mask) end₀ work₀ queue₀ side heading work queue end
+
+abbrev μ-loop : tie.MeasureT-loop
+μ-loop work₀ queue₀ tail from number straight diagonal north side₀ end₀ heading₀ work queue side end heading = 10 - heading
+
+mul-number : tie.Need-mul-number Inv-loop μ-loop
+mul-number c = search needs
+
+slice-read-number : tie.Need-slice-read-number Inv-loop μ-loop
+slice-read-number c = search needs
+
+add-straight : tie.Need-add-straight Inv-loop μ-loop
+add-straight c = search needs
+
+diagonal-of-requires : tie.Need-diagonal-of-requires Inv-loop μ-loop
+diagonal-of-requires c κs = search needs
+
+side-step-requires : tie.Need-side-step-requires Inv-loop μ-loop
+side-step-requires c κs = search needs
+
+loop-holds : tie.Need-loop-holds Inv-loop μ-loop
+loop-holds c = headings-none _ _ _ _ _ _ (c .before .before .before .before .side-step .ensures .offer .room)
+
+side-after-requires : tie.Need-side-after-requires Inv-loop μ-loop
+side-after-requires c κs =
+    let turn = c .before .before in
+    let first = turn .before .before .before .before .before .before in
+    let p = first .before .before .before .before .before .before .before .pre in
+    let i = turn .before .loop .inv in
+    let n = made-size _ _ _ _ _ _ _ _ (first .side-step .ensures .offer) in
+    (record { low = p .0 .low; high = omega (arith, p .0 .high, i .size, n) }, (i .room, (turn .loop-test .taken, omega (arith, p .1 .0))))
+
+place-of-requires : tie.Need-place-of-requires Inv-loop μ-loop
+place-of-requires c κs = search needs
+
+past-requires : tie.Need-past-requires Inv-loop μ-loop
+past-requires c κs = search needs
+
+offer-requires : tie.Need-offer-requires Inv-loop μ-loop
+offer-requires c κs =
+    let call = c .before .before .before .before .before .before .before .before in
+    let turn = call .before .before .before in
+    let first = turn .before .before .before .before .before .before in
+    let l = in-work _ _ _ (turn .loop-test .taken) (first .before .before .before .before .before .before .before .pre .0) in
+    let n = made-size _ _ _ _ _ _ _ _ (first .side-step .ensures .offer) in
+    let s = call .side-after .ensures in
+    (omega (arith, c .before .place-of .ensures, l, n, turn .before .loop .inv .size, s .size), s .room)
+
+add-heading : tie.Need-add-heading Inv-loop μ-loop
+add-heading c = search needs
+
+loop-less : tie.Need-loop-less Inv-loop μ-loop
+loop-less c = search needs
+
+loop-again : tie.Need-loop-again Inv-loop μ-loop
+loop-again c =
+    let made = c .before .before .before .before in
+    let call = made .before .before .before .before .before .before .before .before .before in
+    let turn = call .before .before .before in
+    headings-more _ _ _ _ _ _ _ _ _ _ _ (turn .before .loop .inv) (turn .loop-test .taken) _ refl _ _ _ _ (call .side-after .ensures) _ _ _ _ _ _
+    (turn .before .before .before .before .before .before .before .before .before .diagonal-of .ensures) (made .before .past .ensures) (made .before .before .place-of .ensures) (made .offer .ensures)
+
+same-length : tie.Need-same-length Inv-loop μ-loop
+same-length c = c .before .loop .inv .size ∙ made-size _ _ _ _ _ _ _ _ (c .before .before .before .before .before .before .side-step .ensures .offer)
+
+same-length-2 : tie.Need-same-length-2 Inv-loop μ-loop
+same-length-2 c =
+    let n = made-size _ _ _ _ _ _ _ _ (c .before .before .before .before .before .before .side-step .ensures .offer) in
+    let i = c .before .loop .inv in
+    omega (arith, n, i .size, i .room .places, c .before .before .before .before .before .before .before .before .before .before .before .before .before .pre .1 .1 .places)
+
+returns : tie.Need-returns Inv-loop μ-loop
+returns c = headings-all _ _ _ _ _ _ _ _ _ _ _ _ _ _ _ refl refl (c .before .before .before .before .before .before .side-step .ensures) (c .before .loop .inv) (c .loop-test .left)
+
+pub cell-steps-spec : {M : Type 1} → statement M
+cell-steps-spec =
+    tie.close
+    (tie.spec
+    Inv-loop
+    μ-loop
+    mul-number
+    slice-read-number
+    add-straight
+    diagonal-of-requires
+    side-step-requires
+    loop-holds
+    side-after-requires
+    place-of-requires
+    past-requires
+    offer-requires
+    add-heading
+    loop-less
+    loop-again
+    same-length
+    same-length-2
+    returns)

@@ -1,0 +1,14 @@
+-- `offers::lesser` meets its contract.
+-- Assumes nothing.
+use native.Mathlib.Omega.{arith}
+use Rattle.offers.proofs.lesser.Statement.{statement}
+use Rattle.offers.proofs.lesser.Tie as tie
+
+returns : tie.Need-returns
+returns c = omega (arith, c .if1 .taken)
+
+returns-2 : tie.Need-returns-2
+returns-2 c = omega (arith, c .if1 .left)
+
+pub lesser-spec : {M : Type 1} → statement M
+lesser-spec = tie.close (tie.spec returns returns-2)

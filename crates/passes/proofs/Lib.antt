@@ -1,0 +1,6 @@
+pub mod Kept
+pub mod OnePass
+pub mod FirstWave
+pub mod SomeCell
+pub mod NextWave
+pub mod LastWave

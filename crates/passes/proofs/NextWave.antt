@@ -1,0 +1,133 @@
+-- From one wave to the next. The argument, in words:
+-- 1. All numbers below `limit`, the wave's end, are settled: they were reached by steps out of cells before the wave, all of which were taken, and
+--    none of them rises or falls any more.
+-- 2. This wave's cells are those below `limit` that have not taken their steps. Any step is one wave long at least and two at most, so what they
+--    offer lies in the next wave or in the one after that, whatever the order of the steps.
+-- 3. So the settled cells stay, and afterwards no step out of a cell below `limit` would lower a cell: the limit can rise by a straight step.
+-- 4. The cells that have not taken their steps are those that waited in this wave, and those that it reached.
+-- 5. No wave is empty, so there are no more waves than cells, which bounds every number (`count`).
+-- Assumes nothing.
+use mathlib.Core.Path.{_≡_, refl, ap, sym, subst, _∙_}
+use mathlib.Core.Logic.{_⊎_, inl, inr}
+use mathlib.Core.List.{List}
+use Prim.Native.Nat.{ℕ, _+_, _-_, _≤_, _<_}
+use native.Mathlib.Omega.{arith}
+use native.Mathlib.Decide.{decLe, ℕ-discrete}
+use lib.ListN.{getD}
+use Rattle.offers.specs.Work.{unreached, span, stepped, at, WorkStep}
+use Rattle.offers.specs.Wave.{Wave, Support, Listed, Reached}
+use Rattle.passes.specs.Pass.{Due, PassReady, PassDone, PassLeft}
+use Rattle.passes.proofs.Kept.{the, Between}
+use Rattle.passes.proofs.OnePass.{settled}
+use Rattle.passes.proofs.SomeCell.{small, some-cell}
+
+-- a larger part of the queue
+wider : (q : List ℕ) (low high low′ high′ z : ℕ) → low′ ≤ low → high ≤ high′ → Listed q low high z → Listed q low′ high′ z
+wider q low high low′ high′ z m n l =
+    record { index = l .index; here = l .here; after = omega (arith, l .after); before = omega (arith, l .before) }
+
+module _ (floor : List ℕ) (goal mid tail limit : ℕ) (x q : List ℕ) (g : Between floor goal mid tail limit x q) (more : mid < tail) where
+  abbrev w : Wave
+  w = the floor goal x tail limit
+
+  pub pass-ready : PassReady (the floor goal x tail limit) x q mid tail
+  pass-ready = record {
+    going = g .going;
+    small = small floor goal mid tail limit x q g more;
+    begins = (refl, refl);
+    order = g .order;
+    cells = g .due;
+  }
+
+  module _ (x′ q′ : List ℕ) (top t : ℕ) (l : PassLeft mid tail limit x q x′ q′ top t) where
+    d : PassDone (the floor goal x tail limit) mid top x q x′ q′ t
+    d = l .keeps w refl pass-ready
+
+    pub grows : mid < top
+    grows = let c = some-cell floor goal mid tail limit x q g more in d .fewer (c .index) (c .after) (c .before) (c .near)
+
+    -- what is below the wave's end was so when the wave began
+    was : (z : ℕ) → at x′ z < limit → at x z ≡ at x′ z
+    was = settled w mid top x q x′ q′ t d
+
+    -- no step out of a cell below the wave's end would lower a cell
+    now-relaxed : (h a b : ℕ) → WorkStep floor h a b → at x′ a < limit → at x′ b ≤ stepped h (at x′ a)
+    now-relaxed h a b u m = by (decLe limit (at x′ a + span))
+      where
+        e : at x a ≡ at x′ a
+        e = was a m
+
+        by : Dec (limit ≤ at x′ a + span) → at x′ b ≤ stepped h (at x′ a)
+        by (no n) = d .going .relaxed h a b u (omega arith)
+        by (yes n) =
+            let reached : Reached x a = record { free = g .going .free a (u .from); found = omega (arith, e, pass-ready .small) } in
+            let i = g .in-due a (record { reached = reached; after = omega (arith, e) }) in
+            let f : at x (getD q (i .index) 0) ≡ at x′ a = ap (at x) (i .here) ∙ e in
+            let s = ap (stepped h) f in
+            omega (
+              arith,
+              d .done (i .index) h b (i .after) (i .before) (omega arith) (subst (λ (z : ℕ). WorkStep floor h z b) (sym (i .here)) u),
+            )
+
+    -- what stands in the queue was reached, and lies past the wave
+    now-due : (i : ℕ) → top ≤ i → i < t → Due x′ (limit + span) (getD q′ i 0)
+    now-due i m n = by (decLe tail i)
+      where
+        by : Dec (tail ≤ i) → Due x′ (limit + span) (getD q′ i 0)
+        by (yes k) =
+            let r = d .going .queued i k n in
+            record { reached = record { free = omega (arith, r .after, g .start); found = r .found }; after = omega (arith, r .after) }
+        by (no k) =
+            let r = d .waits i m (omega arith) in
+            let a = d .high (getD q′ i 0) (r .1) in
+            record {
+              reached = record { free = omega (arith, g .start); found = omega (arith, d .low (getD q′ i 0), r .0 .found) };
+              after = omega arith;
+            }
+
+    -- and everything reached that lies past the wave stands there
+    now-listed : (z : ℕ) → Due x′ (limit + span) z → Listed q′ top t z
+    now-listed z k = by (ℕ-discrete (at x z) unreached)
+      where
+        by : Dec (at x z ≡ unreached) → Listed q′ top t z
+        by (yes e) = wider q′ tail t top t z (l .order .1) (omega arith) (d .going .listed z e (k .reached .found))
+        by (no e) =
+            let low = d .low z in
+            let reached : Reached x z = record { free = omega (arith, k .reached .free); found = omega (arith, g .going .kinds z) } in
+            let i = g .in-due z (record { reached = reached; after = omega (arith, k .after) }) in
+            let f : at x (getD q (i .index) 0) ≡ at x z = ap (at x) (i .here) in
+            let j = d .listed (i .index) (i .after) (i .before) (omega (arith, k .after)) in
+            wider q′ top tail top t z (omega arith) (d .going .order) (subst (Listed q′ top tail) (i .here) j)
+
+    -- what was reached by a step out of a settled cell was so, whatever the wave's end
+    again :
+        (end end′ v : ℕ) (y : List ℕ) → limit ≤ v → (z : ℕ) → (z ≡ goal) ⊎ Support (the floor goal x end limit) x′ z (at x′ z)
+        → (z ≡ goal) ⊎ Support (the floor goal y end′ v) x′ z (at x′ z)
+    again end end′ v y m z (inl e) = inl e
+    again end end′ v y m z (inr u) =
+        inr (record { heading = u .heading; cell = u .cell; step = u .step; near = omega (arith, u .near); sum = u .sum })
+
+    pub next : Between floor goal top t (limit + span) x′ q′
+    next = record {
+      order = omega (arith, l .order, d .going .order);
+      support = λ z r. again tail t (limit + span - span) x′ (omega arith) z (d .going .support z (r .free) (r .found));
+      due = now-due;
+      in-due = now-listed;
+      start = omega (arith, g .start);
+      count = omega (arith, g .count, grows);
+      going = record {
+        border = d .going .border;
+        cells = d .going .cells;
+        room = d .going .room;
+        order = omega arith;
+        kinds = d .going .kinds;
+        free = d .going .free;
+        shut = d .going .shut;
+        start = d .going .start;
+        below = λ z f. omega (arith, d .going .below z f);
+        support = λ z o f. again tail t (limit + span) x′ (omega arith) z (d .going .support z o f);
+        relaxed = λ h a b u k. now-relaxed h a b u (omega arith);
+        listed = λ z e f. absurd (omega arith);
+        queued = λ i m n. absurd (omega arith);
+      };
+    }

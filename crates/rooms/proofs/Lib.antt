@@ -1,0 +1,8 @@
+pub mod All
+pub mod RoomFormula
+pub mod Apart
+pub mod InRoom
+pub mod Running
+pub mod Rooms
+pub mod WaysOut
+pub mod Unique

@@ -1,0 +1,54 @@
+-- Document 01, "Rooms": from the cell go north and south while cells are open, then widen this column run west and east while the whole
+-- next column of that height is open. The answer is left, top, right, bottom.
+-- Assumes nothing.
+use mathlib.Core.Bool.{Bool, true}
+use Prim.Native.Nat.{ℕ, zero, suc, _+_, _-_, min}
+use Rattle.given.specs.Given.{pick}
+use Rattle.lengths.specs.declared.Length.{Length}
+use Rattle.rooms.specs.declared.Room.{Room}
+use Rattle.floor.specs.Floor.{Map, both, open?}
+
+-- how far one can go on: how many of the first n pass the test, up to the first that does not
+abbrev pub run : (ℕ → Bool) → ℕ → ℕ
+run test zero = 0
+run test (suc n) = pick (test 0) (suc (run (λ i. test (suc i)) n)) 0
+
+-- all of the first n pass the test
+abbrev pub allBelow : (ℕ → Bool) → ℕ → Bool
+allBelow test zero = true
+allBelow test (suc n) = both (allBelow test n) (test n)
+
+-- north and south while cells are open
+unfoldable pub topOf : Map → ℕ → ℕ → ℕ
+topOf m column row = row - run (λ i. open? m column (row - 1 - i)) row
+
+unfoldable pub bottomOf : Map → ℕ → ℕ → ℕ
+bottomOf m column row = row + run (λ i. open? m column (row + 1 + i)) (m .height - 1 - row)
+
+-- the whole column from top to bottom is open
+unfoldable pub columnOpen : Map → ℕ → ℕ → ℕ → Bool
+columnOpen m top bottom column = allBelow (λ i. open? m column (top + i)) (bottom + 1 - top)
+
+-- west and east while the whole next column is open
+unfoldable pub leftOf : Map → ℕ → ℕ → ℕ → ℕ
+leftOf m top bottom column = column - run (λ i. columnOpen m top bottom (column - 1 - i)) column
+
+unfoldable pub rightOf : Map → ℕ → ℕ → ℕ → ℕ
+rightOf m top bottom column = column + run (λ i. columnOpen m top bottom (column + 1 + i)) (m .width - 1 - column)
+
+abbrev pub roomOf : Map → ℕ → ℕ → Room
+roomOf m column row =
+    record {
+      left = leftOf m (topOf m column row) (bottomOf m column row) column;
+      top = topOf m column row;
+      right = rightOf m (topOf m column row) (bottomOf m column row) column;
+      bottom = bottomOf m column row;
+    }
+
+-- the distance of two columns, or of two rows
+unfoldable pub distance : ℕ → ℕ → ℕ
+distance a b = (a - b) + (b - a)
+
+-- between two cells of one room the shortest length is (|dx − dy|, the lesser of dx and dy)
+abbrev pub roomLength : ℕ → ℕ → Length
+roomLength dx dy = record { straight = distance dx dy; diagonal = min dx dy }

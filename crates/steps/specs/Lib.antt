@@ -1,0 +1,4 @@
+pub mod Heading
+pub mod Way
+pub mod Step
+pub mod Leading
