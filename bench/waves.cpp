@@ -1,11 +1,10 @@
-// The library's fill in C++: the same waves, the same numbers, the same loading and storing, the same two sizes of scratch.
+// The library's fill in C++: the same waves, the same numbers, the same loading and storing, the same two sizes of scratch, the queue in the table.
 #include "peers.hpp"
 
 namespace PEER {
 namespace {
 
 using u8 = std::uint8_t;
-using u16 = std::uint16_t;
 using u32 = std::uint32_t;
 using std::size_t;
 
@@ -16,29 +15,29 @@ constexpr size_t STRIDE = 130;
 // The lesser of two numbers.
 inline u32 lesser(u32 a, u32 b) { return a < b ? a : b; }
 
-inline size_t offer(u32 *work, u16 *queue, size_t tail, size_t place, u32 number) {
+inline size_t offer(u32 *__restrict work, u32 *__restrict queue, size_t tail, size_t place, u32 number) {
     const u32 before = work[place], after = lesser(number, before);
     work[place] = after;
-    queue[tail] = u16(place);
+    queue[tail] = u32(place);
     return tail + (before ^ after) / UNREACHED;
 }
 
 inline size_t place_of(size_t from, int heading) { return from + size_t(DOWN[heading] * int(STRIDE) + ACROSS[heading]); }
 
-// Where the queue ends after a straight step, and the mask of the cell that it leads to: all ones if it is blocked, else 0.
+// Where the queue ends after a straight step, and the mask of the cell that it leads to: UNREACHED if it is blocked, else 0.
 struct Side {
     size_t tail;
     u32 mask;
 };
 
-inline Side side_step(u32 *work, u16 *queue, size_t tail, size_t from, int heading, u32 number) {
+inline Side side_step(u32 *__restrict work, u32 *__restrict queue, size_t tail, size_t from, int heading, u32 number) {
     const size_t place = place_of(from, heading);
-    const u32 mask = work[place] == 0 ? 4294967295u : 0;
+    const u32 mask = (work[place] - 1) / UNREACHED * UNREACHED;
     return {offer(work, queue, tail, place, number % UNREACHED), mask};
 }
 
 // All steps out of a cell.
-inline size_t cell_steps(u32 *work, u16 *queue, size_t tail, size_t from) {
+inline size_t cell_steps(u32 *__restrict work, u32 *__restrict queue, size_t tail, size_t from) {
     const u32 number = work[from], straight = number + WIDE, diagonal = number + (number % WIDE < 8119 ? EARLY : LATE);
     const Side north = side_step(work, queue, tail, from, 0, straight);
     u32 side = north.mask;
@@ -51,17 +50,16 @@ inline size_t cell_steps(u32 *work, u16 *queue, size_t tail, size_t from) {
     return tail;
 }
 
-void all_waves(u32 *work, u16 *queue, size_t goal) {
-    queue[0] = u16(goal);
-    size_t mid = 0, tail = 1;
-    for (u32 limit = 2 * WIDE; mid < tail; limit += WIDE) {
+void all_waves(u32 *__restrict work, u32 *__restrict queue, size_t goal) {
+    size_t mid = 0, tail = cell_steps(work, queue, 0, goal);
+    for (u32 limit = 3 * WIDE; mid < tail; limit += WIDE) {
         size_t top = tail;
         for (size_t i = tail; i-- > mid;) {
             const size_t from = queue[i];
             if (work[from] < limit)
                 tail = cell_steps(work, queue, tail, from);
             else
-                queue[--top] = u16(from);
+                queue[--top] = u32(from);
         }
         mid = top;
     }
@@ -72,7 +70,7 @@ inline void load_byte(u32 *to, u8 byte, size_t count) {
     for (size_t i = 0; i < count; i++) to[i] = ((255u - byte) >> i & 1) * UNREACHED;
 }
 
-void load(u32 *work, const Floor &floor) {
+void load(u32 *__restrict work, const Floor &floor) {
     for (size_t row = 0; row < floor.height; row++) {
         const u8 *bytes = floor.map.data() + row * ((floor.width + 7) / 8);
         u32 *to = work + (row + 1) * STRIDE + 1;
@@ -89,29 +87,28 @@ inline u32 entry_of(u32 number) {
     return (wave - 1 + 19601 * (turns + more) - 8119 * rest) * 65536 + (left - more * 13860);
 }
 
-void store(const u32 *work, const Floor &floor, u32 *table) {
+void store(const u32 *__restrict work, const Floor &floor, u32 *__restrict table) {
     for (size_t row = 0; row < floor.height; row++)
         for (size_t column = 0; column < floor.width; column++)
             table[row * floor.width + column] = entry_of(work[(row + 1) * STRIDE + column + 1]);
 }
 
-void fill_in(u32 *work, u16 *queue, const Floor &floor, u32 *table) {
+void fill_in(u32 *__restrict work, const Floor &floor, u32 *__restrict table) {
     load(work, floor);
     const size_t goal = (floor.goal / floor.width + 1) * STRIDE + floor.goal % floor.width + 1;
     work[goal] = WIDE;
-    all_waves(work, queue, goal);
+    all_waves(work, table, goal);
     store(work, floor, table);
 }
 
-template <size_t Cells> __attribute__((noinline)) void fill_with(const Floor &floor, u32 *table) {
+template <size_t Cells> __attribute__((noinline)) void fill_with(const Floor &floor, u32 *__restrict table) {
     u32 work[Cells] = {};
-    u16 queue[Cells + 1] = {};
-    fill_in(work, queue, floor, table);
+    fill_in(work, floor, table);
 }
 
 }  // namespace
 
-void waves_fill(const Floor &floor, u32 *table) {
+void waves_fill(const Floor &floor, u32 *__restrict table) {
     if (floor.height <= 18)
         fill_with<20 * STRIDE>(floor, table);
     else

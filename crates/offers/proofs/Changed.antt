@@ -1,6 +1,6 @@
 -- A work array with one place changed: a fact of every place, how many cells wait, and the room in the queue.
 -- Assumes nothing.
-use mathlib.Core.Path.{_≡_, ap, sym, subst, _∙_}
+use mathlib.Core.Path.{_≡_, refl, ap, sym, subst, _∙_}
 use mathlib.Core.Logic.{_≢_}
 use mathlib.Core.List.{List, [], _∷_}
 use Prim.Native.Nat.{ℕ, zero, suc, _+_, _-_, _/_, _≤_, _<_}
@@ -27,30 +27,32 @@ waiting-set [] a c h = absurd (omega arith)
 waiting-set (v ∷ x) zero c h = omega arith
 waiting-set (v ∷ x) (suc a) c h = omega (arith, waiting-set x a c (omega arith))
 
-pub waiting-le : (x : List ℕ) → ((z : ℕ) → at x z ≤ unreached) → waiting x ≤ length x
+pub waiting-none : (x : List ℕ) → ((z : ℕ) → at x z ≡ 0) → waiting x ≡ 0
 unfolding waiting
-waiting-le [] k = omega arith
-waiting-le (v ∷ x) k = omega (arith, k 0, waiting-le x (λ z. k (suc z)))
+waiting-none [] k = refl
+waiting-none (v ∷ x) k = omega (arith, k 0, waiting-none x (λ z. k (suc z)))
 
 -- a store in the queue leaves the room
 pub room-queue : (x q : List ℕ) (t j v : ℕ) → Room x q t → Room x (set q j v) t
-room-queue x q t j v r = record { few = r .few; places = length-set q j v ∙ r .places; enough = r .enough }
+room-queue x q t j v r =
+    let n = length-set q j v in
+    record { few = r .few; narrow = omega (arith, r .narrow); enough = omega (arith, r .enough) }
 
 -- the queue grows by the cells that no longer wait
 pub room-offer :
     (x q : List ℕ) (t a b : ℕ) → b ≤ at x a → Room x q t → Room (set x a b) (set q t a) (t + (at x a / unreached - b / unreached))
 room-offer x q t a b le r = record {
   few = omega (arith, length-set x a b, r .few);
-  places = omega (arith, length-set x a b, length-set q t a, r .places);
+  narrow = omega (arith, length-set q t a, r .narrow);
   enough = by (decLe (suc a) (length x));
 }
   where
-    by : Dec (a < length x) → t + (at x a / unreached - b / unreached) + waiting (set x a b) ≤ length (set x a b)
-    by (yes h) = omega (arith, length-set x a b, r .enough, waiting-set x a b h)
+    by : Dec (a < length x) → t + (at x a / unreached - b / unreached) + waiting (set x a b) < length (set q t a)
+    by (yes h) = omega (arith, length-set q t a, r .enough, waiting-set x a b h)
     by (no h) =
         let k : length x ≤ a = omega arith in
         let e : at x a ≡ 0 = List·getD-eq-default x 0 k in
-        omega (arith, length-set x a b, r .enough, ap waiting (set-out x a b k))
+        omega (arith, length-set q t a, r .enough, ap waiting (set-out x a b k))
 
 -- an offer leaves the array as large as it was
 pub made-size : (a c t : ℕ) (x q x′ q′ : List ℕ) (t′ : ℕ) → OfferMade a c t x q x′ q′ t′ → length x′ ≡ length x

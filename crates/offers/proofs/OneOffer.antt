@@ -172,7 +172,7 @@ module _ (w : Wave) (x q : List ℕ) (t a : ℕ) (g : Going w x q t) where
         (λ i l b. on i l b (ℕ-discrete i t))
       where
         in-q : t < length q
-        in-q = omega (arith, g .room .places, g .room .enough)
+        in-q = omega (arith, g .room .enough)
 
         here : Next w x′ a
         here = let e : at x′ a ≡ cand = getD-set-same x a cand 0 in-x in record { after = omega (arith, low); found = omega (arith, high) }

@@ -9,14 +9,14 @@ use native.Mathlib.Omega.{arith}
 use native.Mathlib.Decide.{ℕ-discrete}
 use Rattle.offers.specs.Work.{unreached, stride, stepped, at, target, beside, across}
 use Rattle.offers.specs.Wave.{Wave, Going}
-use Rattle.offers.specs.Taken.{Masks, Past}
+use Rattle.offers.specs.Taken.{Masks, MaskRead, Past}
 use Rattle.offers.proofs.Turns.{Flank, Corner, Shape, level, upright, slanted, shape}
 use Rattle.offers.proofs.OneStep.{open-floor, Fits}
 
 module _ (w : Wave) (x q : List ℕ) (t : ℕ) (g : Going w x q t) where
   -- a mask that is read while the steps are taken is that of the cell as it was loaded
-  pub mask-read : (z r : ℕ) → Masks (at x z) r → Masks (at (w .floor) z) r
-  mask-read z r m = record { blocked = λ e. m .blocked (g .shut z e); free = λ o. m .free (g .free z o) }
+  pub mask-read : (z r : ℕ) → MaskRead (at x z) r → Masks (at (w .floor) z) r
+  mask-read z r read = let m = read (g .kinds z) in record { blocked = λ e. m .blocked (g .shut z e); free = λ o. m .free (g .free z o) }
 
   -- a cell that is blocked now was loaded so
   shut-floor : (z : ℕ) → at x z ≡ 0 → at (w .floor) z ≡ 0

@@ -15,15 +15,19 @@ pub record OfferMade (a c t : ℕ) (x q x′ q′ : List ℕ) (t′ : ℕ) : Typ
   pub end : t′ ≡ t + (at x a / unreached - min c (at x a) / unreached)
   pub room : Room x′ q′ t′
 
--- the mask of a cell with the number v: 0 if it is open, else too much to count
+-- r is the mask of a cell with the number v: 0 if it is open, else too much to count
 pub record Masks (v r : ℕ) : Type 0 where
   pub blocked : v ≡ 0 → unreached ≤ r
   pub free : 0 < v → r ≡ 0
 
+-- r is read as its mask, which it is if no number is above that of a cell that is not reached
+abbrev pub MaskRead : ℕ → ℕ → Type 0
+MaskRead v r = v ≤ unreached → Masks v r
+
 -- the straight step h out of p was taken, which offers cand, and r is the mask of the cell that it leads to
 pub record SideStep (p h cand t : ℕ) (x q x′ q′ : List ℕ) (t′ r : ℕ) : Type 0 where
   pub offer : OfferMade (target p h) cand t x q x′ q′ t′
-  pub mask : Masks (at x (target p h)) r
+  pub mask : MaskRead (at x (target p h)) r
 
 -- the straight step after the diagonal heading h was taken; after 7, the last one, it is north, which was taken first
 pub record SideAfter (p h cand t north : ℕ) (x q x′ q′ : List ℕ) (t′ r : ℕ) : Type 0 where

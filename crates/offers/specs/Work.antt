@@ -91,5 +91,5 @@ waiting (v ∷ l) = v / unreached + waiting l
 -- the queue has room for all that wait, and a place more, which is written before it is known whether it counts
 pub record Room (x q : List ℕ) (t : ℕ) : Type 0 where
   pub few : length x ≤ largest
-  pub places : length q ≡ length x + 1
-  pub enough : t + waiting x ≤ length x
+  pub narrow : length q ≤ largest
+  pub enough : t + waiting x < length q

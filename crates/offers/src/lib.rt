@@ -8,7 +8,7 @@ ghost use mathlib.Core.Path.{_≡_};
 ghost use Prim.Native.Nat.{_+_, _-_, _/_, _<_, _≤_, min};
 ghost use lib.ListN.{length};
 ghost use Rattle.offers.specs.Work.{unreached, stride, largest, highest, stepped, at, Inside, target, Room};
-ghost use Rattle.offers.specs.Taken.{OfferMade, Masks, SideStep, SideAfter, Past, TakenLeft};
+ghost use Rattle.offers.specs.Taken.{OfferMade, MaskRead, SideStep, SideAfter, Past, TakenLeft};
 
 // The number of an open cell that is not reached.
 pub const UNREACHED: u32 = 2147483648;
@@ -43,7 +43,7 @@ fn newly(before: u32, after: u32) -> usize
 }
 
 // Offers a place a number; a cell that was not reached is put behind the queue.
-fn offer(work: &mut [u32], queue: &mut [u16], tail: usize, place: usize, number: u32) -> usize
+fn offer(work: &mut [u32], queue: &mut [u32], tail: usize, place: usize, number: u32) -> usize
     requires { ⌜ place < length (now work) ⌝ }
     requires { ⌜ Room (now work) (now queue) tail ⌝ }
     ensures { λ r. ⌜ OfferMade place number tail (now (work .entry)) (now (queue .entry)) (now (work .exit)) (now (queue .exit)) r ⌝ }
@@ -51,7 +51,7 @@ fn offer(work: &mut [u32], queue: &mut [u16], tail: usize, place: usize, number:
     let before = work[place];
     let after = lesser(number, before);
     work[place] = after;
-    queue[tail] = place as u16;
+    queue[tail] = place as u32;
     tail + newly(before, after)
 }
 
@@ -65,11 +65,11 @@ fn place_of(from: usize, heading: usize) -> usize
     from + change.row * STRIDE + change.column - (STRIDE + 1)
 }
 
-// The mask of a cell with this number: all ones if the cell is blocked, else 0.
+// The mask of a cell with this number: UNREACHED if the cell is blocked, else 0. Only 0, less one, wraps to what is not below UNREACHED.
 fn mask_of(number: u32) -> u32
-    ensures { λ r. ⌜ Masks number r ⌝ }
+    ensures { λ r. ⌜ MaskRead number r ⌝ }
 {
-    if number == 0 { 4294967295 } else { 0 }
+    std::num::wrapping_sub_u32(number, 1) / UNREACHED * UNREACHED
 }
 
 // Where the queue ends after a straight step, and the mask of the cell that it leads to.
@@ -81,7 +81,7 @@ struct Side {
 // A straight step. A blocked cell stays blocked and an open one open, so that its mask is read once, for the diagonal steps on both sides of it.
 fn side_step(
     work: &mut [u32],
-    queue: &mut [u16],
+    queue: &mut [u32],
     tail: usize,
     from: usize,
     heading: usize,
@@ -105,7 +105,7 @@ fn side_step(
 // The straight step after a diagonal heading. After the last one that is north, which was the first step taken.
 fn side_after(
     work: &mut [u32],
-    queue: &mut [u16],
+    queue: &mut [u32],
     tail: usize,
     from: usize,
     heading: usize,
@@ -146,7 +146,7 @@ fn diagonal_of(number: u32) -> u32
 }
 
 // All steps out of a cell: north, and then each diagonal one after the straight one behind it.
-pub fn cell_steps(work: &mut [u32], queue: &mut [u16], tail: usize, from: usize) -> usize
+pub fn cell_steps(work: &mut [u32], queue: &mut [u32], tail: usize, from: usize) -> usize
     requires { ⌜ Inside (now work) from ⌝ }
     requires { ⌜ at (now work) from < highest ⌝ }
     requires { ⌜ Room (now work) (now queue) tail ⌝ }

@@ -1,25 +1,25 @@
--- The first wave: the goal alone is reached.
+-- The first wave: the goal alone was reached, and has taken its steps. It was a wave of its own, which ended at 2 * span.
 -- Assumes nothing.
-use mathlib.Core.Path.{_≡_, refl, ap, sym, subst, _∙_}
+use mathlib.Core.Path.{_≡_, refl, ap, subst, _∙_}
 use mathlib.Core.Logic.{_⊎_, inl, inr}
 use mathlib.Core.List.{List}
 use Prim.Native.Nat.{ℕ, _+_, _*_, _≤_, _<_}
 use native.Mathlib.Omega.{arith}
-use native.Mathlib.Decide.{ℕ-discrete}
-use lib.ListN.{getD, length, set, length-set}
-use lib.Seq.{getD-set-same}
-use Rattle.offers.specs.Work.{unreached, span, at, Room}
-use Rattle.passes.specs.Pass.{Due}
+use native.Mathlib.Decide.{decLe, ℕ-discrete}
+use Rattle.offers.specs.Work.{unreached, span, stepped, at, Inside, WorkStep, Room}
+use Rattle.offers.specs.Wave.{Wave, Listed, Going}
+use Rattle.offers.specs.Taken.{Offered, TakenLeft}
 use Rattle.passes.specs.Solved.{Loaded}
-use Rattle.offers.proofs.Changed.{each, waiting-set, waiting-le}
-use Rattle.passes.proofs.Kept.{Between}
+use Rattle.passes.proofs.Kept.{the, Between}
+use Rattle.passes.proofs.Onward.{supported, next-due, onward}
 
 module _ (x q : List ℕ) (goal : ℕ) (l : Loaded x q goal) where
-  pub goal-inside : goal < length x
-  goal-inside = omega (arith, l .border goal (omega (arith, l .start)))
+  pub goal-inside : Inside x goal
+  goal-inside = l .border goal (omega (arith, l .start))
 
-  in-q : 0 < length q
-  in-q = omega (arith, l .places)
+  -- all cells but the goal can wait
+  pub room : Room x q 0
+  room = record { few = l .few; narrow = l .small; enough = omega (arith, l .enough) }
 
   -- only the goal is reached
   only : (z : ℕ) → 0 < at x z → at x z < unreached → z ≡ goal
@@ -41,53 +41,69 @@ module _ (x q : List ℕ) (goal : ℕ) (l : Loaded x q goal) where
       by (inr (inl e)) = omega arith
       by (inr (inr e)) = omega arith
 
-  -- all cells but the goal can wait
-  room : Room x (set q 0 goal) 1
-  room = record {
-    few = l .few;
-    places = length-set q 0 goal ∙ l .places;
-    enough =
-        omega (
-          arith,
-          waiting-set x goal unreached goal-inside,
-          l .start,
-          length-set x goal unreached,
-          waiting-le (set x goal unreached) (each x goal unreached goal-inside (λ i v. v ≤ unreached) (omega arith) (λ i e. kind i)),
-        );
-  }
+  -- the goal's own wave
+  abbrev w : Wave
+  w = the x goal x 0 (2 * span)
 
-  pub begin : Between x goal 0 1 (2 * span) x (set q 0 goal)
-  begin = record {
+  still : Going w x q 0
+  still = record {
+    border = l .border;
+    cells = refl;
+    room = room;
     order = omega arith;
-    support = λ z r. inl (only z (r .free) (r .found));
-    due = λ i m n. let e : i ≡ 0 = omega arith in
-        subst (Due x (2 * span)) (sym (ap (λ (j : ℕ). getD (set q 0 goal) j 0) e ∙ getD-set-same q 0 goal 0 in-q))
-        (record { reached = record { free = omega (arith, l .start); found = omega (arith, l .start) }; after = omega (arith, l .start) });
-    in-due = λ z k. record {
-      index = 0;
-      here = getD-set-same q 0 goal 0 in-q ∙ sym (only z (k .reached .free) (k .reached .found));
-      after = omega arith;
-      before = omega arith;
-    };
-    start = omega arith;
-    count = omega arith;
-    going = record {
-      border = l .border;
-      cells = refl;
-      room = room;
-      order = omega arith;
-      kinds = kind;
-      free = λ z o. o;
-      shut = λ z e. e;
-      start = l .start;
-      below = λ z f. below z f (ℕ-discrete (at x z) 0);
-      support = λ z o f. inl (only z o f);
-      relaxed = λ h a b s k. absurd (omega (arith, value a (s .from) (omega arith)));
-      listed = λ z o f. absurd (omega arith);
-      queued = λ i m n. absurd (omega arith);
-    };
+    kinds = kind;
+    free = λ z o. o;
+    shut = λ z e. e;
+    start = l .start;
+    below = λ z f. below z f (ℕ-discrete (at x z) 0);
+    support = λ z o f. inl (only z o f);
+    relaxed = λ h a b s k. absurd (omega (arith, value a (s .from) (omega arith)));
+    listed = λ z o f. absurd (omega arith);
+    queued = λ i m n. absurd (omega arith);
   }
     where
       below : (z : ℕ) → at x z < unreached → Dec (at x z ≡ 0) → at x z < 2 * span + 2 * span
       below z f (yes e) = omega arith
       below z f (no e) = omega (arith, value z (omega arith) f)
+
+  module _ (x′ q′ : List ℕ) (t : ℕ) (left : TakenLeft goal 0 x q x′ q′ t) where
+    o : Offered w (λ h. h < 8) goal x q x′ q′ t
+    o =
+        left .keeps w still (omega arith)
+        (record { free = omega (arith, l .start); after = omega (arith, l .start); near = omega (arith, l .start) })
+
+    -- below that wave's end only the goal is reached
+    first : (z : ℕ) → 0 < at x′ z → at x′ z < 2 * span → z ≡ goal
+    first z p b = by (decLe (2 * span) (at x z))
+      where
+        by : Dec (2 * span ≤ at x z) → z ≡ goal
+        by (yes m) = absurd (omega (arith, o .falls .high z m))
+        by (no m) = only z (omega (arith, o .falls .low z)) (omega arith)
+
+    -- and all that is reached past it stands in the queue
+    other : (z : ℕ) → 2 * span ≤ at x′ z → at x′ z < unreached → Listed q′ 0 t z
+    other z p f = by (ℕ-discrete (at x z) unreached)
+      where
+        by : Dec (at x z ≡ unreached) → Listed q′ 0 t z
+        by (yes e) = o .going .listed z e f
+        by (no e) =
+            let m = o .falls .low z in
+            absurd (omega (arith, value z (omega arith) (omega (arith, kind z))))
+
+    relaxed : (h a b : ℕ) → WorkStep x h a b → at x′ a < 2 * span → at x′ b ≤ stepped h (at x′ a)
+    relaxed h a b s k =
+        let e = first a (o .going .free a (s .from)) k in
+        let f : stepped h (at x′ a) ≡ stepped h span = ap (stepped h) (ap (at x′) e ∙ o .going .start) in
+        let v = ap (stepped h) (l .start) in
+        omega (arith, o .done h b (s .heading) (subst (λ (z : ℕ). WorkStep x h z b) e s))
+
+    pub begin : Between x goal 0 t (3 * span) x′ q′
+    begin = record {
+      going = onward x goal x 0 (2 * span) x′ q′ t (o .going) relaxed;
+      order = omega arith;
+      support = supported x goal x 0 (2 * span) x′ q′ t (o .going);
+      due = λ i m n. next-due x goal x 0 (2 * span) x′ q′ t (o .going) _ (omega arith) (o .going .queued i m n);
+      in-due = λ z k. other z (omega (arith, k .after)) (k .reached .found);
+      start = omega arith;
+      count = omega arith;
+    }

@@ -30,4 +30,4 @@ pub record Between (floor : List ℕ) (goal mid tail limit : ℕ) (x q : List �
   -- the goal lies before the wave's end
   pub start : span < limit
   -- no wave was empty
-  pub count : limit ≤ span * (mid + 2)
+  pub count : limit ≤ span * (mid + 3)

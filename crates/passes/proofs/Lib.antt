@@ -1,5 +1,6 @@
 pub mod Kept
 pub mod OnePass
+pub mod Onward
 pub mod FirstWave
 pub mod SomeCell
 pub mod NextWave

@@ -8,17 +8,17 @@
 -- 5. No wave is empty, so there are no more waves than cells, which bounds every number (`count`).
 -- Assumes nothing.
 use mathlib.Core.Path.{_≡_, refl, ap, sym, subst, _∙_}
-use mathlib.Core.Logic.{_⊎_, inl, inr}
 use mathlib.Core.List.{List}
-use Prim.Native.Nat.{ℕ, _+_, _-_, _≤_, _<_}
+use Prim.Native.Nat.{ℕ, _+_, _≤_, _<_}
 use native.Mathlib.Omega.{arith}
 use native.Mathlib.Decide.{decLe, ℕ-discrete}
 use lib.ListN.{getD}
 use Rattle.offers.specs.Work.{unreached, span, stepped, at, WorkStep}
-use Rattle.offers.specs.Wave.{Wave, Support, Listed, Reached}
+use Rattle.offers.specs.Wave.{Wave, Listed, Reached}
 use Rattle.passes.specs.Pass.{Due, PassReady, PassDone, PassLeft}
 use Rattle.passes.proofs.Kept.{the, Between}
 use Rattle.passes.proofs.OnePass.{settled}
+use Rattle.passes.proofs.Onward.{supported, next-due, onward}
 use Rattle.passes.proofs.SomeCell.{small, some-cell}
 
 -- a larger part of the queue
@@ -74,9 +74,7 @@ module _ (floor : List ℕ) (goal mid tail limit : ℕ) (x q : List ℕ) (g : Be
     now-due i m n = by (decLe tail i)
       where
         by : Dec (tail ≤ i) → Due x′ (limit + span) (getD q′ i 0)
-        by (yes k) =
-            let r = d .going .queued i k n in
-            record { reached = record { free = omega (arith, r .after, g .start); found = r .found }; after = omega (arith, r .after) }
+        by (yes k) = next-due floor goal x tail limit x′ q′ t (d .going) _ (omega (arith, g .start)) (d .going .queued i k n)
         by (no k) =
             let r = d .waits i m (omega arith) in
             let a = d .high (getD q′ i 0) (r .1) in
@@ -99,35 +97,13 @@ module _ (floor : List ℕ) (goal mid tail limit : ℕ) (x q : List ℕ) (g : Be
             let j = d .listed (i .index) (i .after) (i .before) (omega (arith, k .after)) in
             wider q′ top tail top t z (omega arith) (d .going .order) (subst (Listed q′ top tail) (i .here) j)
 
-    -- what was reached by a step out of a settled cell was so, whatever the wave's end
-    again :
-        (end end′ v : ℕ) (y : List ℕ) → limit ≤ v → (z : ℕ) → (z ≡ goal) ⊎ Support (the floor goal x end limit) x′ z (at x′ z)
-        → (z ≡ goal) ⊎ Support (the floor goal y end′ v) x′ z (at x′ z)
-    again end end′ v y m z (inl e) = inl e
-    again end end′ v y m z (inr u) =
-        inr (record { heading = u .heading; cell = u .cell; step = u .step; near = omega (arith, u .near); sum = u .sum })
-
     pub next : Between floor goal top t (limit + span) x′ q′
     next = record {
+      going = onward floor goal x tail limit x′ q′ t (d .going) now-relaxed;
       order = omega (arith, l .order, d .going .order);
-      support = λ z r. again tail t (limit + span - span) x′ (omega arith) z (d .going .support z (r .free) (r .found));
+      support = supported floor goal x tail limit x′ q′ t (d .going);
       due = now-due;
       in-due = now-listed;
       start = omega (arith, g .start);
       count = omega (arith, g .count, grows);
-      going = record {
-        border = d .going .border;
-        cells = d .going .cells;
-        room = d .going .room;
-        order = omega arith;
-        kinds = d .going .kinds;
-        free = d .going .free;
-        shut = d .going .shut;
-        start = d .going .start;
-        below = λ z f. omega (arith, d .going .below z f);
-        support = λ z o f. again tail t (limit + span) x′ (omega arith) z (d .going .support z o f);
-        relaxed = λ h a b u k. now-relaxed h a b u (omega arith);
-        listed = λ z e f. absurd (omega arith);
-        queued = λ i m n. absurd (omega arith);
-      };
     }

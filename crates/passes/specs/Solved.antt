@@ -3,14 +3,15 @@
 use mathlib.Core.Path.{_≡_}
 use mathlib.Core.Logic.{_⊎_}
 use mathlib.Core.List.{List}
-use Prim.Native.Nat.{ℕ, _+_, _≤_, _<_}
+use Prim.Native.Nat.{ℕ, _≤_, _<_}
 use lib.ListN.{length}
-use Rattle.offers.specs.Work.{unreached, largest, span, stepped, highest, at, Inside, WorkStep}
+use Rattle.offers.specs.Work.{unreached, largest, span, stepped, highest, at, Inside, WorkStep, waiting}
 
--- a floor in the work array, with nothing reached but the goal
+-- a floor in the work array, with nothing reached but the goal, and a queue that has room for all other cells, and a place more
 pub record Loaded (x q : List ℕ) (goal : ℕ) : Type 0 where
   pub few : length x ≤ largest
-  pub places : length q ≡ length x + 1
+  pub small : length q ≤ largest
+  pub enough : waiting x < length q
   pub start : at x goal ≡ span
   pub kinds : (z : ℕ) → (z ≡ goal) ⊎ ((at x z ≡ 0) ⊎ (at x z ≡ unreached))
   pub border : (z : ℕ) → 0 < at x z → Inside x z

@@ -1,6 +1,6 @@
 // Wave after wave, from the goal. A wave is one straight step wide: when it begins, all numbers below its end are settled. Its cells take all
 // their steps, in whatever order; what they reach lies in the next wave or, by a diagonal step, in the one after that.
-ghost use mathlib.Core.Path.{_≡_};
+// The goal takes its steps first and is never queued, so that the queue has at most one cell fewer than the floor.
 ghost use Rattle.passes.specs.Pass.{PassBegun, PassLeft};
 ghost use Rattle.passes.specs.Solved.{Loaded, Solved};
 
@@ -12,7 +12,7 @@ pub struct Part {
 
 // One wave, which ends at limit, over the cells queue[mid..tail]: those below the limit take their steps, and the others wait, moved to the
 // end of their part of the queue, so that they stand right before the cells that are reached now.
-fn one_wave(work: &mut [u32], queue: &mut [u16], mid: usize, tail: usize, limit: u32) -> Part
+fn one_wave(work: &mut [u32], queue: &mut [u32], mid: usize, tail: usize, limit: u32) -> Part
     requires { ⌜ PassBegun (now work) (now queue) mid tail limit ⌝ }
     ensures { λ r. ⌜ PassLeft mid tail limit (now (work .entry)) (now (queue .entry)) (now (work .exit)) (now (queue .exit)) (r .mid) (r .tail) ⌝ }
 {
@@ -26,7 +26,7 @@ fn one_wave(work: &mut [u32], queue: &mut [u16], mid: usize, tail: usize, limit:
             end = offers::cell_steps(work, queue, end, from);
         } else {
             top -= 1;
-            queue[top] = from as u16;
+            queue[top] = from as u32;
         }
     }
     Part {
@@ -35,15 +35,14 @@ fn one_wave(work: &mut [u32], queue: &mut [u16], mid: usize, tail: usize, limit:
     }
 }
 
-// All waves from the goal's place.
-pub fn all_waves(work: &mut [u32], queue: &mut [u16], goal: usize)
+// All waves from the goal's place: the goal's own steps, and then wave after wave of what they reach.
+pub fn all_waves(work: &mut [u32], queue: &mut [u32], goal: usize)
     requires { ⌜ Loaded (now work) (now queue) goal ⌝ }
     ensures { λ r. ⌜ Solved (now (work .entry)) goal (now (work .exit)) ⌝ }
 {
-    queue[0] = goal as u16;
     let mut mid: usize = 0;
-    let mut tail: usize = 1;
-    let mut limit: u32 = 2 * offers::STRAIGHT;
+    let mut tail = offers::cell_steps(work, queue, 0, goal);
+    let mut limit: u32 = 3 * offers::STRAIGHT;
     while mid < tail {
         let part = one_wave(work, queue, mid, tail, limit);
         mid = part.mid;

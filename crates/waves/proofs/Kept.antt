@@ -5,7 +5,6 @@ use mathlib.Core.List.{List}
 use Prim.Native.Nat.{ℕ, _+_, _*_, _%_, _≤_}
 use lib.ListN.{length}
 use Rattle.floor.specs.Floor.{Map}
-use Rattle.offers.specs.Work.{spot}
 use Rattle.waves.specs.Load.{Prefix}
 use Rattle.waves.specs.Store.{Stored}
 
@@ -13,7 +12,7 @@ use Rattle.waves.specs.Store.{Stored}
 pub record CellsLoaded (m : Map) (x₀ : List ℕ) (c r : ℕ) (x : List ℕ) : Type 0 where
   pub inside : c ≤ m .width
   pub size : length x ≡ length x₀
-  pub prefix : Prefix m (spot c r) x
+  pub prefix : Prefix m c r x
 
 -- the first i of count cells of a byte are loaded, from column c of row r on
 pub record BitsLoaded (m : Map) (x₀ : List ℕ) (c r count i : ℕ) (x : List ℕ) : Type 0 where
@@ -29,7 +28,7 @@ pub record BytesLoaded (m : Map) (x₀ : List ℕ) (c r : ℕ) (x : List ℕ) : 
 pub record RowsLoaded (m : Map) (x₀ : List ℕ) (r : ℕ) (x : List ℕ) : Type 0 where
   pub inside : r ≤ m .height
   pub size : length x ≡ length x₀
-  pub prefix : Prefix m (spot 0 r) x
+  pub prefix : Prefix m 0 r x
 
 -- the entries of row r before column c are stored, and all before row r
 pub record CellsStored (width height : ℕ) (x : List ℕ) (c r : ℕ) (t : List ℕ) : Type 0 where

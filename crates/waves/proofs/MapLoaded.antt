@@ -16,7 +16,7 @@ use Rattle.floor.specs.Inner.{Sound}
 use Rattle.steps.proofs.Grid.{eight}
 use Rattle.offers.specs.Work.{unreached, stride, at, spot}
 use Rattle.waves.specs.Load.{numberOf, loaded, Run, Prefix, Cleared, Tall}
-use Rattle.offers.proofs.Changed.{each}
+use Rattle.offers.proofs.Changed.{each, waiting-set, waiting-none}
 use Rattle.waves.proofs.Kept.{CellsLoaded, BitsLoaded, RowsLoaded}
 
 -- the bit of the cell in column c and row r
@@ -86,8 +86,8 @@ module _ (m : Map) (s : Sound m) where
         (both-false (ltb (z % stride - 1) (m .width))))
 
   -- one cell more
-  prefix-more : (c r : ℕ) (x : List ℕ) → c < m .width → r < m .height → Prefix m (spot c r) x
-      → Prefix m (spot (c + 1) r) (set x (spot c r) ((1 - bitAt m c r) * unreached))
+  prefix-more : (c r : ℕ) (x : List ℕ) → c < m .width → r < m .height → Prefix m c r x
+      → Prefix m (c + 1) r (set x (spot c r) ((1 - bitAt m c r) * unreached))
   prefix-more c r x p q i =
       let in-x : spot c r < length x = omega (arith, i .tall, s .wide) in
       record {
@@ -96,25 +96,31 @@ module _ (m : Map) (s : Sound m) where
             each x (spot c r) _ in-x (λ z v. z < spot (c + 1) r → v ≡ loaded m z) (λ k. sym (loaded-cell c r p q))
             (λ z e k. i .done z (omega arith));
         rest = each x (spot c r) _ in-x (λ z v. spot (c + 1) r ≤ z → v ≡ 0) (λ k. absurd (omega arith)) (λ z e k. i .rest z (omega arith));
+        few = omega (arith, i .few, waiting-set x (spot c r) ((1 - bitAt m c r) * unreached) in-x);
       }
 
-  -- places that stay blocked
-  prefix-skip : (n k : ℕ) (x : List ℕ) → n ≤ k → ((z : ℕ) → n ≤ z → z < k → loaded m z ≡ 0) → Prefix m n x → Prefix m k x
-  prefix-skip n k x le zeros i = record { tall = i .tall; done = λ z p. by z p (decLe n z); rest = λ z p. i .rest z (omega arith) }
+  pub prefix-none : (x : List ℕ) → Cleared x → Tall m x → Prefix m 0 0 x
+  prefix-none x i tall = record {
+    tall = tall;
+    done = λ z p. i .done z ∙ sym (loaded-top z p);
+    rest = λ z p. i .done z;
+    few = omega (arith, waiting-none x (i .done));
+  }
+
+  -- the places between two rows stay blocked
+  pub prefix-row : (r : ℕ) (x : List ℕ) → Prefix m (m .width) r x → Prefix m 0 (r + 1) x
+  prefix-row r x i = record {
+    tall = i .tall;
+    done = λ z p. by z p (decLe (spot (m .width) r) z);
+    rest = λ z p. i .rest z (omega (arith, s .wide));
+    few = omega (arith, i .few);
+  }
     where
-      by : (z : ℕ) → z < k → Dec (n ≤ z) → at x z ≡ loaded m z
-      by z p (yes q) = i .rest z q ∙ sym (zeros z q p)
+      by : (z : ℕ) → z < spot 0 (r + 1) → Dec (spot (m .width) r ≤ z) → at x z ≡ loaded m z
+      by z p (yes q) = i .rest z q ∙ sym (loaded-gap z r q p)
       by z p (no q) = i .done z (omega arith)
 
-  pub prefix-none : (x : List ℕ) → Cleared x → Tall m x → Prefix m (spot 0 0) x
-  prefix-none x i tall =
-      prefix-skip 0 (stride + 1) x (omega arith) (λ z p q. loaded-top z q)
-      (record { tall = tall; done = λ z p. absurd (omega arith); rest = λ z p. i .done z })
-
-  pub prefix-row : (r : ℕ) (x : List ℕ) → Prefix m (spot (m .width) r) x → Prefix m (spot 0 (r + 1)) x
-  prefix-row r x i = prefix-skip (spot (m .width) r) (spot 0 (r + 1)) x (omega (arith, s .wide)) (λ z p q. loaded-gap z r p q) i
-
-  pub prefix-all : (x : List ℕ) → Prefix m (spot 0 (m .height)) x → (z : ℕ) → at x z ≡ loaded m z
+  pub prefix-all : (x : List ℕ) → Prefix m 0 (m .height) x → (z : ℕ) → at x z ≡ loaded m z
   prefix-all x i z = by (decLe (spot 0 (m .height)) z)
     where
       by : Dec (spot 0 (m .height) ≤ z) → at x z ≡ loaded m z
@@ -132,7 +138,7 @@ module _ (m : Map) (s : Sound m) where
   cells-more x₀ c r n x q i p e = record {
     inside = omega arith;
     size = length-set x (spot c r) n ∙ i .size;
-    prefix = subst (λ (k : ℕ). Prefix m (spot (c + 1) r) (set x (spot c r) k)) (sym e) (prefix-more c r x p q (i .prefix));
+    prefix = subst (λ (k : ℕ). Prefix m (c + 1) r (set x (spot c r) k)) (sym e) (prefix-more c r x p q (i .prefix));
   }
 
   pub bits-more :
@@ -154,23 +160,23 @@ module _ (m : Map) (s : Sound m) where
       }
 
 -- none of a byte's cells, and all of them
-pub bits-none : (m : Map) (x : List ℕ) (c r count : ℕ) → Run m r c count → Prefix m (spot c r) x → BitsLoaded m x c r count 0 x
+pub bits-none : (m : Map) (x : List ℕ) (c r count : ℕ) → Run m r c count → Prefix m c r x → BitsLoaded m x c r count 0 x
 bits-none m x c r count u p =
     let e : c ≡ c + 0 = omega arith in
     record {
       few = omega arith;
-      cells = record { inside = omega (arith, u .column); size = refl; prefix = subst (λ (k : ℕ). Prefix m (spot k r) x) e p };
+      cells = record { inside = omega (arith, u .column); size = refl; prefix = subst (λ (k : ℕ). Prefix m k r x) e p };
     }
 
 pub bits-all :
-    (m : Map) (x₀ : List ℕ) (c r count i : ℕ) (x : List ℕ) → BitsLoaded m x₀ c r count i x → count ≤ i → Prefix m (spot (c + count) r) x
+    (m : Map) (x₀ : List ℕ) (c r count i : ℕ) (x : List ℕ) → BitsLoaded m x₀ c r count i x → count ≤ i → Prefix m (c + count) r x
 bits-all m x₀ c r count i x b p =
     let e : i ≡ count = omega (arith, b .few) in
-    subst (λ (k : ℕ). Prefix m (spot (c + k) r) x) e (b .cells .prefix)
+    subst (λ (k : ℕ). Prefix m (c + k) r x) e (b .cells .prefix)
 
 -- all cells of a row
-pub row-done : (m : Map) (x : List ℕ) (k r : ℕ) → k ≡ m .width → Prefix m (spot k r) x → Prefix m (spot (m .width) r) x
-row-done m x k r e p = subst (λ (c : ℕ). Prefix m (spot c r) x) e p
+pub row-done : (m : Map) (x : List ℕ) (k r : ℕ) → k ≡ m .width → Prefix m k r x → Prefix m (m .width) r x
+row-done m x k r e p = subst (λ (c : ℕ). Prefix m c r x) e p
 
-pub rows-all : (m : Map) (x₀ : List ℕ) (r : ℕ) (x : List ℕ) → RowsLoaded m x₀ r x → m .height ≤ r → Prefix m (spot 0 (m .height)) x
-rows-all m x₀ r x i p = let e : r ≡ m .height = omega (arith, i .inside) in subst (λ (k : ℕ). Prefix m (spot 0 k) x) e (i .prefix)
+pub rows-all : (m : Map) (x₀ : List ℕ) (r : ℕ) (x : List ℕ) → RowsLoaded m x₀ r x → m .height ≤ r → Prefix m 0 (m .height) x
+rows-all m x₀ r x i p = let e : r ≡ m .height = omega (arith, i .inside) in subst (λ (k : ℕ). Prefix m 0 k x) e (i .prefix)

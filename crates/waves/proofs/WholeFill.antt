@@ -6,7 +6,7 @@ use mathlib.Core.Bool.{Bool, true, false}
 use mathlib.Core.List.{List, [], _∷_}
 use Prim.Native.Nat.{ℕ, zero, suc, _+_, _-_, _*_, _/_, _%_, _≤_, _<_}
 use native.Mathlib.Omega.{arith}
-use native.Mathlib.Nat.{mod-lt}
+use native.Mathlib.Nat.{mod-lt, mul-le-mul}
 use lib.ListN.{getD, length, set, length-set, replicate, length-replicate, getD-replicate, List·getD-eq-default}
 use native.Mathlib.Decide.{decLe}
 use lib.Seq.{getD-set-same}
@@ -23,7 +23,7 @@ use Rattle.passes.specs.Solved.{Loaded, Solved}
 use Rattle.waves.specs.Load.{numberOf, loaded, Prefix}
 use Rattle.waves.specs.Store.{entryOf, Storable, Stored}
 use Rattle.waves.specs.Fill.{Fillable, Scratch}
-use Rattle.offers.proofs.Changed.{each}
+use Rattle.offers.proofs.Changed.{each, waiting-set}
 use Rattle.waves.proofs.OnWork.{Mapped}
 use Rattle.waves.proofs.Shortest.{keyed, says}
 use Rattle.waves.proofs.MapLoaded.{prefix-all}
@@ -42,8 +42,8 @@ number-kinds : (t : Bool) → (numberOf t ≡ 0) ⊎ (numberOf t ≡ unreached)
 number-kinds true = inr refl
 number-kinds false = inl refl
 
-holds-number : (t : Bool) → Holds t → 0 < numberOf t
-holds-number true t = omega arith
+holds-number : (t : Bool) → Holds t → numberOf t ≡ unreached
+holds-number true t = refl
 holds-number false t = absurd t
 
 -- a place of a cell is read back
@@ -56,7 +56,7 @@ loaded-spot m c r k =
     let r′ : suc r - 1 ≡ r = omega arith in
     ap₂ (λ (u v : ℕ). numberOf (openPast m u v)) e f ∙ rw (lt-ltb 0 (suc c) (omega arith), lt-ltb 0 (suc r) (omega arith), c′, r′)
 
-module _ (m : Map) (goal entries : ℕ) (a : Fillable m goal entries) (x : List ℕ) (p : Prefix m (spot 0 (m .height)) x) where
+module _ (m : Map) (goal entries : ℕ) (a : Fillable m goal entries) (x : List ℕ) (p : Prefix m 0 (m .height) x) where
   abbrev g : ℕ
   g = spot (goal % m .width) (goal / m .width)
 
@@ -74,6 +74,13 @@ module _ (m : Map) (goal entries : ℕ) (a : Fillable m goal entries) (x : List 
 
   loaded-value : (z : ℕ) → at x z ≡ loaded m z
   loaded-value = prefix-all m (a .sound) x p
+
+  -- an open cell waits
+  waits : (c r : ℕ) → Holds (open? m c r) → at x (spot c r) ≡ unreached
+  waits c r o =
+      let n = a .sound .wide in
+      let k = open-column m c r o in
+      loaded-value (spot c r) ∙ loaded-spot m c r (omega arith) ∙ holds-number (open? m c r) o
 
   -- a cell with a number is open
   behind : (z : ℕ) → 0 < at x′ z → Past m (z % stride) (z / stride)
@@ -101,11 +108,13 @@ module _ (m : Map) (goal entries : ℕ) (a : Fillable m goal entries) (x : List 
       let n = a .sound .wide in
       record { low = omega (arith, q .column, q .row); high = omega (arith, q .column, q .row, p .tall, length-set x g span) }
 
-  pub ready : (q : List ℕ) → length x ≤ largest → length q ≡ length x + 1 → Loaded x′ q g
+  pub ready : (q : List ℕ) → length x ≤ largest → length q ≡ entries → Loaded x′ q g
   unfolding loaded
   ready q few size = record {
     few = omega (arith, length-set x g span);
-    places = omega (arith, length-set x g span);
+    small = omega (arith, a .table, mul-le-mul (a .sound .high) (a .sound .wide));
+    enough =
+        omega (arith, a .table, p .few, waiting-set x g span goal-on, waits (goal % m .width) (goal / m .width) (a .chosen .free));
     start = getD-set-same x g span 0 goal-on;
     kinds = each x g span goal-on (λ z v. (z ≡ g) ⊎ ((v ≡ 0) ⊎ (v ≡ unreached))) (inl refl) (λ z e. inr (kinds z));
     border = border;
@@ -117,18 +126,12 @@ module _ (m : Map) (goal entries : ℕ) (a : Fillable m goal entries) (x : List 
   mapped : Mapped (floor m) x′
   mapped = record {
     narrow = a .sound .wide;
-    free = λ c r o. each x g span goal-on (λ z v. z ≡ spot c r → 0 < v) (λ e. omega arith) (λ z d e. numbered c r o z e) (spot c r) refl;
+    free = λ c r o. each x g span goal-on (λ z v. z ≡ spot c r → 0 < v) (λ e. omega arith) (λ z d e. omega (arith, ap (at x) e, waits c r o)) (spot c r) refl;
     column = λ z o. z % stride - 1;
     row = λ z o. z / stride - 1;
     opened = λ z o. behind z o .«open»;
     place = λ z o. let q = behind z o in omega (arith, q .column, q .row);
   }
-    where
-      numbered : (c r : ℕ) → Holds (open? m c r) → (z : ℕ) → z ≡ spot c r → 0 < at x z
-      numbered c r o z e =
-          let n = a .sound .wide in
-          let k = open-column m c r o in
-          subst (λ (v : ℕ). 0 < v) (sym (ap (at x) e ∙ loaded-value (spot c r) ∙ loaded-spot m c r (omega arith))) (holds-number (open? m c r) o)
 
   module _ (x″ : List ℕ) (s : Solved x′ g x″) where
     pub storable : Storable (m .width) (m .height) x″
@@ -149,13 +152,12 @@ module _ (m : Map) (goal entries : ℕ) (a : Fillable m goal entries) (x : List 
       };
     }
 
--- new scratch: the arrays are made of zeros
-pub scratch : (m : Map) (n : ℕ) → n ≤ largest → (m .height + 2) * stride ≤ n → Scratch m (replicate n 0) (replicate (n + 1) 0)
+-- new scratch: the array is made of zeros
+pub scratch : (m : Map) (n : ℕ) → n ≤ largest → (m .height + 2) * stride ≤ n → Scratch m (replicate n 0)
 scratch m n few tall = record {
   cleared = record { done = λ z. by z (decLe (suc z) n) };
   tall = record { rows = omega (arith, size) };
   few = omega (arith, size);
-  places = length-replicate {A = ℕ} (n + 1) 0 ∙ ap (λ (k : ℕ). k + 1) (sym size);
 }
   where
     size : length (replicate {A = ℕ} n 0) ≡ n

@@ -2,7 +2,7 @@
 -- Assumes nothing.
 use mathlib.Core.Path.{_≡_}
 use mathlib.Core.List.{List}
-use Prim.Native.Nat.{ℕ, _+_, _/_, _%_, _≤_, _<_}
+use Prim.Native.Nat.{ℕ, _/_, _%_, _≤_, _<_}
 use lib.ListN.{length}
 use Rattle.floor.specs.Floor.{Map, Open, cells}
 use Rattle.floor.specs.Inner.{Sound}
@@ -20,9 +20,8 @@ pub record Fillable (m : Map) (goal entries : ℕ) : Type 0 where
   pub chosen : OpenGoal m goal
   pub table : entries ≡ cells m
 
--- scratch for this floor: a work array of blocked cells, and a queue of any contents
-pub record Scratch (m : Map) (x q : List ℕ) : Type 0 where
+-- scratch for this floor: a work array of blocked cells
+pub record Scratch (m : Map) (x : List ℕ) : Type 0 where
   pub cleared : Cleared x
   pub tall : Tall m x
   pub few : length x ≤ largest
-  pub places : length q ≡ length x + 1

@@ -8,7 +8,7 @@ use lib.ListN.{length}
 use Rattle.floor.specs.Floor.{Map}
 use Rattle.steps.specs.Leading.{openPast}
 use Rattle.floor.specs.Inner.{Sound}
-use Rattle.offers.specs.Work.{unreached, stride, at}
+use Rattle.offers.specs.Work.{unreached, stride, at, spot, waiting}
 
 -- the number of an open and of a blocked cell
 abbrev pub numberOf : Bool → ℕ
@@ -32,11 +32,12 @@ pub record Run (m : Map) (r c count : ℕ) : Type 0 where
 pub record Tall (m : Map) (x : List ℕ) : Type 0 where
   pub rows : (m .height + 2) * stride ≤ length x
 
--- the places below n are loaded, and the others are blocked
-pub record Prefix (m : Map) (n : ℕ) (x : List ℕ) : Type 0 where
+-- the rows before r are loaded and the cells of row r before column c, the other places are blocked, and no more cells wait than were loaded
+pub record Prefix (m : Map) (c r : ℕ) (x : List ℕ) : Type 0 where
   pub tall : Tall m x
-  pub done : (z : ℕ) → z < n → at x z ≡ loaded m z
-  pub rest : (z : ℕ) → n ≤ z → at x z ≡ 0
+  pub done : (z : ℕ) → z < spot c r → at x z ≡ loaded m z
+  pub rest : (z : ℕ) → spot c r ≤ z → at x z ≡ 0
+  pub few : waiting x ≤ r * m .width + c
 
 -- an array of blocked cells
 pub record Cleared (x : List ℕ) : Type 0 where

@@ -20,24 +20,23 @@ const SMALL: usize = 2600;
 
 const LARGE: usize = 16900;
 
-// Fills the table over lent scratch.
+// Fills the table over lent scratch. The waves keep their queue in the lent table, until the entries are stored.
 fn fill_in(
     work: &mut [u32],
-    queue: &mut [u16],
     width: usize,
     height: usize,
     map: &[u8],
     goal: usize,
     table: &mut [u32],
 )
-    requires { ⌜ Scratch (mapOf width height (now map)) (now work) (now queue) ⌝ }
+    requires { ⌜ Scratch (mapOf width height (now map)) (now work) ⌝ }
     requires { ⌜ Fillable (mapOf width height (now map)) goal (length (now table)) ⌝ }
     ensures { λ r. ⌜ Filled (stepsOf (mapOf width height (now (map .entry)))) (Only goal) (cells (mapOf width height (now (map .entry)))) (now (table .exit)) ⌝ }
 {
     loading::load_map(work, width, height, map);
     let place = (goal / width + 1) * offers::STRIDE + goal % width + 1;
     work[place] = offers::STRAIGHT;
-    passes::all_waves(work, queue, place);
+    passes::all_waves(work, table, place);
     storing::store_table(work, width, height, table);
 }
 
@@ -48,8 +47,7 @@ fn fill_low(width: usize, height: usize, map: &[u8], goal: usize, table: &mut [u
     ensures { λ r. ⌜ Filled (stepsOf (mapOf width height (now (map .entry)))) (Only goal) (cells (mapOf width height (now (map .entry)))) (now (table .exit)) ⌝ }
 {
     let mut work = [0u32; SMALL];
-    let mut queue = [0u16; SMALL + 1];
-    fill_in(&mut work, &mut queue, width, height, map, goal, table);
+    fill_in(&mut work, width, height, map, goal, table);
 }
 
 // Fills the table of any floor.
@@ -58,8 +56,7 @@ fn fill_any(width: usize, height: usize, map: &[u8], goal: usize, table: &mut [u
     ensures { λ r. ⌜ Filled (stepsOf (mapOf width height (now (map .entry)))) (Only goal) (cells (mapOf width height (now (map .entry)))) (now (table .exit)) ⌝ }
 {
     let mut work = [0u32; LARGE];
-    let mut queue = [0u16; LARGE + 1];
-    fill_in(&mut work, &mut queue, width, height, map, goal, table);
+    fill_in(&mut work, width, height, map, goal, table);
 }
 
 // Fills the table: each entry is the shortest length from its cell to the goal, or the mark.

@@ -3,7 +3,7 @@ ghost use mathlib.Core.Path.{_≡_};
 ghost use Prim.Native.Nat.{_+_, _-_, _*_, _<_};
 ghost use Rattle.floor.specs.Floor.{mapOf, bit};
 ghost use Rattle.floor.specs.Inner.{Sound};
-ghost use Rattle.offers.specs.Work.{unreached, spot};
+ghost use Rattle.offers.specs.Work.{unreached};
 ghost use Rattle.waves.specs.Load.{Run, Prefix};
 use offers::STRIDE;
 use offers::UNREACHED;
@@ -35,8 +35,8 @@ fn load_byte(
     count: usize,
 )
     requires { ⌜ Run (mapOf width height (now map)) row column count ⌝ }
-    requires { ⌜ Prefix (mapOf width height (now map)) (spot column row) (now work) ⌝ }
-    ensures { λ r. ⌜ Prefix (mapOf width height (now (map .entry))) (spot (column + count) row) (now (work .exit)) ⌝ }
+    requires { ⌜ Prefix (mapOf width height (now map)) column row (now work) ⌝ }
+    ensures { λ r. ⌜ Prefix (mapOf width height (now (map .entry))) (column + count) row (now (work .exit)) ⌝ }
 {
     let byte = map[row * ((width + 7) / 8) + column / 8];
     let first = (row + 1) * STRIDE + column + 1;
@@ -51,8 +51,8 @@ fn load_byte(
 fn load_row(work: &mut [u32], width: usize, height: usize, map: &[u8], row: usize)
     requires { ⌜ Sound (mapOf width height (now map)) ⌝ }
     requires { ⌜ row < height ⌝ }
-    requires { ⌜ Prefix (mapOf width height (now map)) (spot 0 row) (now work) ⌝ }
-    ensures { λ r. ⌜ Prefix (mapOf width height (now (map .entry))) (spot width row) (now (work .exit)) ⌝ }
+    requires { ⌜ Prefix (mapOf width height (now map)) 0 row (now work) ⌝ }
+    ensures { λ r. ⌜ Prefix (mapOf width height (now (map .entry))) width row (now (work .exit)) ⌝ }
 {
     let mut column: usize = 0;
     while column + 8 <= width {
@@ -67,8 +67,8 @@ fn load_row(work: &mut [u32], width: usize, height: usize, map: &[u8], row: usiz
 // The floor's cells, row after row; the border stays blocked.
 pub fn load_map(work: &mut [u32], width: usize, height: usize, map: &[u8])
     requires { ⌜ Sound (mapOf width height (now map)) ⌝ }
-    requires { ⌜ Prefix (mapOf width height (now map)) (spot 0 0) (now work) ⌝ }
-    ensures { λ r. ⌜ Prefix (mapOf width height (now (map .entry))) (spot 0 height) (now (work .exit)) ⌝ }
+    requires { ⌜ Prefix (mapOf width height (now map)) 0 0 (now work) ⌝ }
+    ensures { λ r. ⌜ Prefix (mapOf width height (now (map .entry))) 0 height (now (work .exit)) ⌝ }
 {
     let mut row: usize = 0;
     while row < height {

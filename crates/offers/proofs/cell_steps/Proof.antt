@@ -1,9 +1,10 @@
 -- `offers::cell_steps` meets its contract. The invariant: the steps with the headings before this one were taken, and the mask that is kept is
 -- that of the side cell behind.
 -- Assumes nothing.
-use mathlib.Core.Path.{refl, _∙_}
+use mathlib.Core.Path.{_≡_, refl, _∙_}
 use Prim.Native.Nat.{_-_}
 use native.Mathlib.Omega.{arith}
+use lib.ListN.{length}
 use borrow.Author.Needs.{needs}
 use Rattle.offers.proofs.Changed.{made-size}
 use Rattle.offers.proofs.Turns.{in-work}
@@ -14,7 +15,7 @@ use Rattle.offers.proofs.cell_steps.Tie as tie
 
 abbrev Inv-loop : tie.InvT-loop
 Inv-loop work₀ queue₀ tail from number straight diagonal north side₀ end₀ heading₀ work queue side end heading =
-    Headings from number (north .mask) end₀ work₀ queue₀ side heading work queue end
+    Headings from number (north .mask) end₀ work₀ queue₀ side heading work queue end × (length queue ≡ length queue₀)
 
 abbrev μ-loop : tie.MeasureT-loop
 μ-loop work₀ queue₀ tail from number straight diagonal north side₀ end₀ heading₀ work queue side end heading = 10 - heading
@@ -35,14 +36,14 @@ side-step-requires : tie.Need-side-step-requires Inv-loop μ-loop
 side-step-requires c κs = search needs
 
 loop-holds : tie.Need-loop-holds Inv-loop μ-loop
-loop-holds c = headings-none _ _ _ _ _ _ (c .before .before .before .before .side-step .ensures .offer .room)
+loop-holds c = (headings-none _ _ _ _ _ _ (c .before .before .before .before .side-step .ensures .offer .room), refl)
 
 side-after-requires : tie.Need-side-after-requires Inv-loop μ-loop
 side-after-requires c κs =
     let turn = c .before .before in
     let first = turn .before .before .before .before .before .before in
     let p = first .before .before .before .before .before .before .before .pre in
-    let i = turn .before .loop .inv in
+    let i = turn .before .loop .inv .0 in
     let n = made-size _ _ _ _ _ _ _ _ (first .side-step .ensures .offer) in
     (record { low = p .0 .low; high = omega (arith, p .0 .high, i .size, n) }, (i .room, (turn .loop-test .taken, omega (arith, p .1 .0))))
 
@@ -60,7 +61,7 @@ offer-requires c κs =
     let l = in-work _ _ _ (turn .loop-test .taken) (first .before .before .before .before .before .before .before .pre .0) in
     let n = made-size _ _ _ _ _ _ _ _ (first .side-step .ensures .offer) in
     let s = call .side-after .ensures in
-    (omega (arith, c .before .place-of .ensures, l, n, turn .before .loop .inv .size, s .size), s .room)
+    (omega (arith, c .before .place-of .ensures, l, n, turn .before .loop .inv .0 .size, s .size), s .room)
 
 add-heading : tie.Need-add-heading Inv-loop μ-loop
 add-heading c = search needs
@@ -72,21 +73,20 @@ loop-again : tie.Need-loop-again Inv-loop μ-loop
 loop-again c =
     let made = c .before .before .before .before in
     let call = made .before .before .before .before .before .before .before .before .before in
-    let turn = call .before .before .before in
-    headings-more _ _ _ _ _ _ _ _ _ _ _ (turn .before .loop .inv) (turn .loop-test .taken) _ refl _ _ _ _ (call .side-after .ensures) _ _ _ _ _ _
-    (turn .before .before .before .before .before .before .before .before .before .diagonal-of .ensures) (made .before .past .ensures) (made .before .before .place-of .ensures) (made .offer .ensures)
+    let turn = call .before .before .before in (
+      headings-more _ _ _ _ _ _ _ _ _ _ _ (turn .before .loop .inv .0) (turn .loop-test .taken) _ refl _ _ _ _ (call .side-after .ensures) _ _ _ _ _ _
+          (turn .before .before .before .before .before .before .before .before .before .diagonal-of .ensures) (made .before .past .ensures) (made .before .before .place-of .ensures) (made .offer .ensures),
+      omega (arith, made .offer .kept .1, call .side-after .kept .1, turn .before .loop .inv .1),
+    )
 
 same-length : tie.Need-same-length Inv-loop μ-loop
-same-length c = c .before .loop .inv .size ∙ made-size _ _ _ _ _ _ _ _ (c .before .before .before .before .before .before .side-step .ensures .offer)
+same-length c = c .before .loop .inv .0 .size ∙ made-size _ _ _ _ _ _ _ _ (c .before .before .before .before .before .before .side-step .ensures .offer)
 
 same-length-2 : tie.Need-same-length-2 Inv-loop μ-loop
-same-length-2 c =
-    let n = made-size _ _ _ _ _ _ _ _ (c .before .before .before .before .before .before .side-step .ensures .offer) in
-    let i = c .before .loop .inv in
-    omega (arith, n, i .size, i .room .places, c .before .before .before .before .before .before .before .before .before .before .before .before .before .pre .1 .1 .places)
+same-length-2 c = omega (arith, c .before .loop .inv .1, c .before .before .before .before .before .before .side-step .kept .1)
 
 returns : tie.Need-returns Inv-loop μ-loop
-returns c = headings-all _ _ _ _ _ _ _ _ _ _ _ _ _ _ _ refl refl (c .before .before .before .before .before .before .side-step .ensures) (c .before .loop .inv) (c .loop-test .left)
+returns c = headings-all _ _ _ _ _ _ _ _ _ _ _ _ _ _ _ refl refl (c .before .before .before .before .before .before .side-step .ensures) (c .before .loop .inv .0) (c .loop-test .left)
 
 pub cell-steps-spec : {M : Type 1} → statement M
 cell-steps-spec =

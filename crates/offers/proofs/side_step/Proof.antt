@@ -7,7 +7,7 @@ use native.Mathlib.Nat.{mod-eq-of-lt}
 use native.Mathlib.Omega.{arith}
 use borrow.Author.Needs.{needs}
 use Rattle.offers.specs.Work.{at, target}
-use Rattle.offers.specs.Taken.{OfferMade, Masks, SideStep}
+use Rattle.offers.specs.Taken.{OfferMade, MaskRead, SideStep}
 use Rattle.offers.proofs.Turns.{in-work}
 use Rattle.offers.proofs.side_step.Statement.{statement}
 use Rattle.offers.proofs.side_step.Tie as tie
@@ -41,11 +41,11 @@ same-length-2 : tie.Need-same-length-2
 same-length-2 c = search needs
 
 -- the place and the number by the names that the contract has for them
-named : (p h a n c t : ℕ) (x q x′ q′ : List ℕ) (t′ r : ℕ) → a ≡ target p h → c ≡ n → OfferMade a c t x q x′ q′ t′ → Masks (at x a) r
+named : (p h a n c t : ℕ) (x q x′ q′ : List ℕ) (t′ r : ℕ) → a ≡ target p h → c ≡ n → OfferMade a c t x q x′ q′ t′ → MaskRead (at x a) r
     → SideStep p h n t x q x′ q′ t′ r
 named p h a n c t x q x′ q′ t′ r e f made m = record {
   offer = subst (λ (z : ℕ). OfferMade z n t x q x′ q′ t′) e (subst (λ (v : ℕ). OfferMade a v t x q x′ q′ t′) f made);
-  mask = subst (λ (z : ℕ). Masks (at x z) r) e m;
+  mask = subst (λ (z : ℕ). MaskRead (at x z) r) e m;
 }
 
 returns : tie.Need-returns

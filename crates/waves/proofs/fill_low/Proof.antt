@@ -9,19 +9,16 @@ use Rattle.waves.proofs.fill_low.Tie as tie
 slice-aggregate-fill-in : tie.Need-slice-aggregate-fill-in
 slice-aggregate-fill-in c = search needs
 
-slice-aggregate-fill-in-2 : tie.Need-slice-aggregate-fill-in-2
-slice-aggregate-fill-in-2 c = search needs
-
 fill-in-requires : tie.Need-fill-in-requires
 fill-in-requires c κs =
-    let p = c .before .before .before .before .before .pre in
+    let p = c .before .before .before .before .pre in
     (scratch _ 2600 (omega arith) (omega (arith, p .0)), p .1)
 
 same-length : tie.Need-same-length
 same-length c = search needs
 
 returns : tie.Need-returns
-returns c = c .before .before .before .before .fill-in .ensures
+returns c = search needs
 
 pub fill-low-spec : {M : Type 1} → statement M
-fill-low-spec = tie.close (tie.spec slice-aggregate-fill-in slice-aggregate-fill-in-2 fill-in-requires same-length returns)
+fill-low-spec = tie.close (tie.spec slice-aggregate-fill-in fill-in-requires same-length returns)
