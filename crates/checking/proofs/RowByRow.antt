@@ -19,13 +19,14 @@ use Rattle.steps.specs.Way.{Only}
 use Rattle.steps.proofs.OnMap.{few-cells}
 use Rattle.floor.specs.Inner.{Ready}
 use Rattle.entries.specs.Made.{Right, Judged}
-use Rattle.checking.specs.Number.{none, numberAt}
-use Rattle.checking.specs.Window.{Written, Walled, goalColumn, startOf, differsAt, Window, RowJudged}
+use Rattle.judging.specs.Number.{none, numberAt}
+use Rattle.judging.specs.Window.{goalColumn, startOf, differsAt, Window}
+use Rattle.checking.specs.Window.{Written, Walled, RowJudged}
 use Rattle.checking.proofs.Writing.{written-as}
-use Rattle.checking.proofs.Turns.{all-judged}
+use Rattle.judging.proofs.Turns.{all-judged}
 use Rattle.checking.proofs.Windows.{walled-window, row-written, moved-down}
-use Rattle.checking.proofs.Deciding.{tells-only}
-use Rattle.checking.proofs.InWindow.{decided}
+use Rattle.judging.proofs.Deciding.{tells-only}
+use Rattle.judging.proofs.InWindow.{decided}
 
 -- what is known where a row is about to be judged
 pub record Going (m : Map) (t : List ℕ) (goal row : ℕ) (x : List ℕ) : Type 0 where

@@ -9,9 +9,10 @@ use native.Mathlib.Nat.{zero-add}
 use native.Mathlib.Decide.{decLe, ℕ-discrete}
 use lib.ListN.{getD, replicate, length-replicate, getD-replicate}
 use Rattle.floor.specs.Floor.{Map}
-use Rattle.checking.specs.Number.{wall, numberAt}
-use Rattle.checking.specs.Window.{Written, Walled, Window}
-use Rattle.checking.proofs.CellNumbers.{west, north, east, number-off}
+use Rattle.judging.specs.Number.{wall, numberAt}
+use Rattle.judging.specs.Window.{Window}
+use Rattle.checking.specs.Window.{Written, Walled}
+use Rattle.judging.proofs.CellNumbers.{west, north, east, number-off}
 
 -- a window made of walls
 pub walls : (n : ℕ) → n ≡ 390 → Walled (replicate n wall)

@@ -7,12 +7,11 @@ ghost use Rattle.steps.specs.Step.{stepsOf};
 ghost use Rattle.steps.specs.Way.{Only};
 ghost use Rattle.floor.specs.Inner.{Ready};
 ghost use Rattle.entries.specs.Made.{Right, Judged};
-ghost use Rattle.checking.specs.Window.{Walled, Window, RowJudged};
-use crate::numbers::WALL;
+ghost use Rattle.judging.specs.Window.{Window};
+ghost use Rattle.checking.specs.Window.{Walled, RowJudged};
+use judging::numbers::WALL;
 
 mod numbers;
-mod offers;
-mod rows;
 mod window;
 
 // The first column of a row of the floor whose cell is not right; the window shows the row above and the row, and then the next one too.
@@ -30,8 +29,8 @@ fn judge_next(
     ensures { λ r. ⌜ RowJudged (mapOf width height (now (map .entry))) (now (table .entry)) goal row (now (window .exit)) r ⌝ }
 {
     window::next_row(window, window::LAST, map, table, width, height, row + 1);
-    let column = rows::goal_column(goal, row * width);
-    rows::judge_row(window, width, column)
+    let column = judging::rows::goal_column(goal, row * width);
+    judging::rows::judge_row(window, width, column)
 }
 
 // The lowest cell that is not right, through a window with nothing but walls.
@@ -47,7 +46,7 @@ fn judge_rows(
     requires { ⌜ Walled (now window) ⌝ }
     ensures { λ r. ⌜ Judged (Right (stepsOf (mapOf width height (now (map .entry)))) (Only goal) (now (table .entry))) (cells (mapOf width height (now (map .entry)))) r ⌝ }
 {
-    window::next_row(window, window::MIDDLE, map, table, width, height, 0);
+    window::next_row(window, judging::rows::MIDDLE, map, table, width, height, 0);
     let mut row: usize = 0;
     while row < height {
         let column = judge_next(window, width, height, map, goal, table, row);

@@ -4,21 +4,14 @@ ghost use Prim.Native.Nat.{_+_, _<_};
 ghost use lib.ListN.{length};
 ghost use Rattle.calls.specs.CallTests.{Fitting};
 ghost use Rattle.floor.specs.Floor.{mapOf};
-ghost use Rattle.checking.specs.Number.{notMark, openNumber, numberOf, numberAt};
+ghost use Rattle.judging.specs.Number.{notMark, openNumber, numberOf, numberAt};
+use judging::numbers::DIAGONAL;
+use judging::numbers::NONE;
+use judging::numbers::STRAIGHT;
+use judging::numbers::WALL;
 
 // The mark of a table.
 const MARK: u32 = 4294967295;
-
-// The keys of a straight and of a diagonal step.
-pub const STRAIGHT: u32 = 13860;
-
-pub const DIAGONAL: u32 = 19601;
-
-// An open cell with the mark.
-pub const NONE: u32 = 805306368;
-
-// A blocked cell with the mark, and a place off the floor.
-pub const WALL: u32 = 1073741824;
 
 // 1 for an entry that is not the mark, else 0.
 fn not_mark(entry: u32) -> u32

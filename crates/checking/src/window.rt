@@ -4,13 +4,11 @@ ghost use mathlib.Core.Path.{_≡_};
 ghost use Prim.Native.Nat.{_+_, _≤_, _<_};
 ghost use lib.ListN.{getD, length};
 ghost use Rattle.floor.specs.Floor.{mapOf};
-ghost use Rattle.checking.specs.Number.{wall, numberAt};
+ghost use Rattle.judging.specs.Number.{wall, numberAt};
 ghost use Rattle.checking.specs.Window.{Written, Loading};
-use crate::numbers::WALL;
+use judging::numbers::WALL;
 
-// The places of the first column in the middle row and in the last.
-pub const MIDDLE: usize = 131;
-
+// The place of the first column in the last row.
 pub const LAST: usize = 261;
 
 // The numbers of a row of the floor.

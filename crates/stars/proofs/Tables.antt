@@ -23,7 +23,7 @@ use Rattle.entries.specs.Best.{made}
 use Rattle.entries.specs.Filled.{Filled}
 use Rattle.entries.specs.Made.{Right}
 use Rattle.entries.proofs.Judging.{right-filled}
-use Rattle.checking.proofs.Deciding.{floor-only, floor-made, tells-only}
+use Rattle.judging.proofs.Deciding.{floor-only, floor-made, tells-only}
 use Rattle.table.specs.declared.CheckAnswer.{CheckAnswer}
 use Rattle.table.specs.declared.CheckAnswer.the-variants as answer
 use Rattle.table.specs.Answers.{Verdict}

@@ -1,13 +1,11 @@
 -- The floor's steps, one statement for all headings: the two ends, and the two cells that share a side with both, are open.
 -- Assumes nothing.
-use mathlib.Core.Path.{_≡_, refl, ap, ap₂, sym, subst, _∙_}
-use Prim.Native.Nat.{ℕ, zero, suc, _+_, _*_, _%_, _/_, _≤_, _<_}
+use mathlib.Core.Path.{_≡_, refl, ap, ap₂, sym, _∙_}
+use Prim.Native.Nat.{ℕ, zero, suc, _+_, _*_, _%_, _/_, _<_}
 use native.Mathlib.Omega.{arith}
 use native.Mathlib.Nat.{div-add-mod', mod-eq-of-lt, div-eq-of-lt, mul-le-mul-right, add-zero, mul-add-mod-self-right, mul-add-div-right}
-use Rattle.lengths.specs.declared.Length.{Length}
-use Rattle.lengths.specs.Order.{_⊕_, _⊑_}
-use Rattle.steps.specs.Heading.{changes, changeOf, weight, byParity, straightStep, diagonalStep}
-use Rattle.steps.specs.Way.{Graph, Way, Back}
+use Rattle.steps.specs.Heading.{changes, changeOf, byParity}
+use Rattle.steps.specs.Way.{Graph, Back}
 use Rattle.steps.specs.Step.{Moved, gridSteps}
 
 -- a floor: its width, and which cells are open; those lie on it

@@ -3,7 +3,7 @@
 use native.Mathlib.Omega.{arith}
 use borrow.Author.Needs.{needs}
 use Rattle.floor.proofs.Reading.{small}
-use Rattle.checking.proofs.InWindow.{window-low}
+use Rattle.judging.proofs.InWindow.{window-low}
 use Rattle.checking.proofs.RowByRow.{goal-low, whole, row-judged}
 use Rattle.checking.proofs.judge_next.Statement.{statement}
 use Rattle.checking.proofs.judge_next.Tie as tie

@@ -2,7 +2,7 @@
 -- Assumes nothing.
 use native.Mathlib.Omega.{arith}
 use borrow.Author.Needs.{needs}
-use Rattle.checking.proofs.CellNumbers.{in-table, number-read}
+use Rattle.judging.proofs.CellNumbers.{in-table, number-read}
 use Rattle.checking.proofs.numbers.number_at.Statement.{statement}
 use Rattle.checking.proofs.numbers.number_at.Tie as tie
 

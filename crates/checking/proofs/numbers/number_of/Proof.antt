@@ -3,8 +3,8 @@
 use mathlib.Core.Path.{ap}
 use Prim.Native.Nat.{ℕ, _+_}
 use native.Mathlib.Omega.{arith}
-use Rattle.checking.specs.Number.{wall, numberOf}
-use Rattle.checking.proofs.CellNumbers.{not-mark-low}
+use Rattle.judging.specs.Number.{wall, numberOf}
+use Rattle.judging.proofs.CellNumbers.{not-mark-low}
 use borrow.Author.Needs.{needs}
 use Rattle.checking.proofs.numbers.number_of.Statement.{statement}
 use Rattle.checking.proofs.numbers.number_of.Tie as tie

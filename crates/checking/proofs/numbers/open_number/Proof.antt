@@ -4,8 +4,8 @@ use native.Mathlib.Omega.{arith}
 use mathlib.Core.Path.{sym, ap, _∙_}
 use Prim.Native.Nat.{ℕ, _+_}
 use borrow.Author.Needs.{needs}
-use Rattle.checking.specs.Number.{none}
-use Rattle.checking.proofs.CellNumbers.{open-good, open-bad, not-mark-low}
+use Rattle.judging.specs.Number.{none}
+use Rattle.judging.proofs.CellNumbers.{open-good, open-bad, not-mark-low}
 use Rattle.checking.proofs.numbers.open_number.Statement.{statement}
 use Rattle.checking.proofs.numbers.open_number.Tie as tie
 

@@ -4,7 +4,7 @@ use mathlib.Core.Path.{refl}
 use Prim.Native.Nat.{_-_, _≤_}
 use native.Mathlib.Omega.{arith}
 use borrow.Author.Needs.{needs}
-use Rattle.checking.specs.Number.{wall}
+use Rattle.judging.specs.Number.{wall}
 use Rattle.checking.specs.Window.{Written}
 use Rattle.checking.proofs.Writing.{written-none, written-more, written-all}
 use Rattle.checking.proofs.window.clear_row.Statement.{statement}

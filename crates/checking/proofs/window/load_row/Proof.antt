@@ -4,7 +4,7 @@ use Prim.Native.Nat.{_+_, _-_, _≤_}
 use native.Mathlib.Omega.{arith}
 use borrow.Author.Needs.{needs}
 use Rattle.floor.specs.Floor.{mapOf}
-use Rattle.checking.specs.Number.{numberAt}
+use Rattle.judging.specs.Number.{numberAt}
 use Rattle.checking.specs.Window.{Written}
 use Rattle.checking.proofs.Writing.{written-none, written-more, written-all}
 use Rattle.checking.proofs.window.load_row.Statement.{statement}

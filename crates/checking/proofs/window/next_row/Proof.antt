@@ -3,7 +3,7 @@
 use mathlib.Core.Path.{sym}
 use native.Mathlib.Omega.{arith}
 use borrow.Author.Needs.{needs}
-use Rattle.checking.proofs.CellNumbers.{south, number-off}
+use Rattle.judging.proofs.CellNumbers.{south, number-off}
 use Rattle.checking.proofs.Writing.{written-as}
 use Rattle.checking.proofs.window.next_row.Statement.{statement}
 use Rattle.checking.proofs.window.next_row.Tie as tie

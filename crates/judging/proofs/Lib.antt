@@ -1,0 +1,5 @@
+pub mod CellNumbers
+pub mod Offering
+pub mod Deciding
+pub mod InWindow
+pub mod Turns
