@@ -21,7 +21,7 @@ use Rattle.floor.specs.Inner.{Sound}
 use Rattle.floor.proofs.Joined.{both-true}
 use Rattle.steps.proofs.Bound.{bound}
 use Rattle.steps.proofs.OnMap.{few-cells, on-floor}
-use Rattle.walking.specs.Legs.{Leg, Proper}
+use Rattle.walker.specs.Legs.{Leg, Proper}
 use Rattle.walking.specs.Read.{Routes}
 use Rattle.walking.proofs.LegSteps.{stepsIn, route-steps}
 

@@ -16,10 +16,10 @@ use Rattle.steps.proofs.Ways.{shortest-unique}
 use Rattle.plan.specs.declared.Query.{Query}
 use Rattle.plan.specs.Sound.{Contents}
 use Rattle.plan.proofs.Only.{not-both, one-break, one-contents}
-use Rattle.walking.specs.Legs.{Leg, Legs, bytes}
+use Rattle.walker.specs.Legs.{Leg, Legs, bytes}
+use Rattle.walker.proofs.OnFloor.{route-unique}
 use Rattle.walking.specs.Read.{Routes}
 use Rattle.walking.proofs.LegsOf.{legs-unique}
-use Rattle.walking.proofs.OnFloor.{route-unique}
 use Rattle.text.specs.Text.{line, wordLine, floorWord}
 use Rattle.printing.specs.Query.{startOf, goalOf, QueryNumbers}
 use Rattle.printing.specs.Prints.{mapIn, planRefused}

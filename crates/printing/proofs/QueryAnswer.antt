@@ -16,8 +16,8 @@ use Rattle.floor.specs.Calls.{spotCell, routeRefused}
 use Rattle.floor.specs.Inner.{Sound}
 use Rattle.steps.proofs.OnMap.{small-shortest}
 use Rattle.plan.specs.declared.Query.{Query}
+use Rattle.walker.specs.Legs.{bytes}
 use Rattle.walking.specs.declared.Way.{Way}
-use Rattle.walking.specs.Legs.{bytes}
 use Rattle.walking.specs.Read.{Found}
 use Rattle.walking.proofs.LegsOf.{length-bytes}
 use Rattle.route.specs.declared.Answer.{Answer}

@@ -12,7 +12,7 @@ use Rattle.steps.specs.Way.{Only, Reach}
 use Rattle.steps.specs.Step.{stepsOf}
 use Rattle.floor.specs.Calls.{spotCell, routeRefused}
 use Rattle.plan.specs.declared.Query.{Query}
-use Rattle.walking.specs.Legs.{Leg, bytes}
+use Rattle.walker.specs.Legs.{Leg, bytes}
 use Rattle.walking.specs.Read.{Routes}
 
 abbrev pub startOf : Query → Spot

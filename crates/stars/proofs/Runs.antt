@@ -19,13 +19,13 @@ use Rattle.steps.specs.Step.{stepsOf}
 use Rattle.steps.specs.Way.{Only}
 use Rattle.floor.proofs.Joined.{both-true}
 use Rattle.entries.specs.Filled.{Filled}
+use Rattle.walker.specs.Legs.{Leg, Proper, Turns, join}
+use Rattle.walker.specs.Reading.{Run, done, more, next, numbered}
+use Rattle.walker.proofs.OnFloor.{first-run}
 use Rattle.walking.specs.declared.Reading.{Reading}
 use Rattle.walking.specs.declared.Reading.the-variants as reading
-use Rattle.walking.specs.Legs.{Leg, Proper, Turns, join}
 use Rattle.walking.specs.Read.{Reads}
-use Rattle.walking.specs.Reading.{Run, done, more, next, numbered}
 use Rattle.walking.proofs.Answering.{reads-no-way}
-use Rattle.walking.proofs.OnFloor.{first-run}
 use Rattle.stars.specs.Starred.{written}
 
 -- these are the reader's headings from x

@@ -9,7 +9,7 @@ use Rattle.steps.specs.Leading.{openPast, permitted, leadOf}
 use Rattle.floor.specs.Refusals.{sidesOutside, wrongLength, pastWidth, wrongTable, offFloor}
 use Rattle.rooms.specs.Room.{topOf, bottomOf, columnOpen, leftOf, rightOf}
 use Rattle.entries.specs.Entry.{read}
-use Rattle.walking.specs.Reading.{fits, next}
+use Rattle.walker.specs.Reading.{fits, next}
 use Rattle.stars.specs.Starred.{cases, All}
 use Rattle.stars.proofs.Computed.{all}
 

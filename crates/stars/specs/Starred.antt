@@ -19,7 +19,7 @@ use Rattle.entries.specs.Entry.{mark, long, pack}
 use Rattle.table.specs.declared.FillAnswer.{FillAnswer}
 use Rattle.table.specs.declared.CheckAnswer.{CheckAnswer}
 use Rattle.table.specs.Answers.{fillGives, Fills, checkGives, Checks}
-use Rattle.walking.specs.Legs.{Leg, bytes}
+use Rattle.walker.specs.Legs.{Leg, bytes}
 use Rattle.route.specs.declared.Answer.{Answer}
 use Rattle.route.specs.Answers.{answerGives, Finds}
 

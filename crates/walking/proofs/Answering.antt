@@ -15,14 +15,15 @@ use Rattle.steps.specs.Leading.{leadOf}
 use Rattle.steps.specs.Step.{stepsOf}
 use Rattle.steps.specs.Way.{Only}
 use Rattle.entries.specs.Filled.{Filled}
-use Rattle.walking.specs.declared.Walker.{Walker}
+use Rattle.walker.specs.declared.Walker.{Walker}
+use Rattle.walker.specs.Route.{FirstRoute}
+use Rattle.walker.specs.Legs.{Leg}
+use Rattle.walker.specs.Reading.{Order, Run, Starts}
+use Rattle.walker.proofs.OnFloor.{first-run, no-way}
 use Rattle.walking.specs.declared.Way.{Way}
 use Rattle.walking.specs.declared.Reading.the-variants as reading
-use Rattle.walking.specs.Route.{FirstRoute}
-use Rattle.walking.specs.Legs.{Leg}
 use Rattle.walking.specs.Read.{Routes, Reads}
-use Rattle.walking.specs.Reading.{Order, Run, Starts, Ahead, Counted, Written}
-use Rattle.walking.proofs.OnFloor.{first-run, no-way}
+use Rattle.walking.specs.Ahead.{Ahead, Counted, Written}
 use Rattle.walking.proofs.LegsAhead.{ahead-exists}
 
 module _ (m : Map) (c : Sound m) (goal : ℕ) (on : goal < cells m) (t : List ℕ) (f : Filled (stepsOf m) (Only goal) (cells m) t) (o : Order) (start : ℕ) (b : start < cells m) where

@@ -16,19 +16,19 @@ use Rattle.steps.specs.Leading.{leadOf}
 use Rattle.steps.specs.Step.{stepsOf}
 use Rattle.steps.specs.Way.{Graph, Only, stay}
 use Rattle.entries.specs.Filled.{Filled}
+use Rattle.walker.specs.declared.Walker.{Walker}
+use Rattle.walker.specs.Route as walk
+use Rattle.walker.specs.Route.{Walk}
+use Rattle.walker.specs.Legs.{Leg, Legs, bytes}
+use Rattle.walker.specs.Reading.{Order, Run, done, more, next, Stands, Steps, Stepped}
+use Rattle.walker.proofs.First.{first-there}
+use Rattle.walker.proofs.OnFloor.{first-run, no-way}
+use Rattle.walker.proofs.Searching.{run-exists}
+use Rattle.walker.proofs.Stepping.{next-small}
 use Rattle.walking.specs.declared.Reading.{Reading}
 use Rattle.walking.specs.declared.Reading.the-variants as reading
-use Rattle.walking.specs.declared.Walker.{Walker}
-use Rattle.walking.specs.Route as walk
-use Rattle.walking.specs.Route.{Walk}
-use Rattle.walking.specs.Legs.{Leg, Legs, bytes}
 use Rattle.walking.specs.Read.{Routes, Reads}
-use Rattle.walking.specs.Reading.{Order, Run, done, more, next, Stands, Steps, Stepped}
-use Rattle.walking.proofs.First.{first-there}
 use Rattle.walking.proofs.LegsOf.{legs-unique, no-legs}
-use Rattle.walking.proofs.OnFloor.{first-run, no-way}
-use Rattle.walking.proofs.Searching.{run-exists}
-use Rattle.walking.proofs.Stepping.{next-small}
 
 module _ (m : Map) (c : Sound m) (goal : ℕ) (on : goal < cells m) (t : List ℕ) (f : Filled (stepsOf m) (Only goal) (cells m) t) (o : Order) where
   abbrev go : ℕ → ℕ

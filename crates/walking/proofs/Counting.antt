@@ -7,11 +7,12 @@ use native.Mathlib.Omega.{arith}
 use lib.ListN.{getD, length}
 use Rattle.lengths.specs.declared.Length.{Length}
 use Rattle.floor.specs.Floor.{Map}
-use Rattle.walking.specs.declared.Walker.{Walker}
-use Rattle.walking.specs.declared.WalkedLeg.{WalkedLeg}
+use Rattle.walker.specs.declared.Walker.{Walker}
+use Rattle.walker.specs.declared.WalkedLeg.{WalkedLeg}
+use Rattle.walker.specs.Legs.{Leg}
+use Rattle.walker.specs.Reading.{Order, Stands, Leads}
 use Rattle.walking.specs.declared.Way.{Way}
-use Rattle.walking.specs.Legs.{Leg}
-use Rattle.walking.specs.Reading.{Order, Stands, Leads, Ahead, Counted, Room}
+use Rattle.walking.specs.Ahead.{Ahead, Counted, Room}
 use Rattle.walking.proofs.LegsAhead.{ahead-leg, ahead-end}
 
 -- k legs of w are counted, and v stands after them

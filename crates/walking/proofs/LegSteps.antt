@@ -12,9 +12,9 @@ use Rattle.steps.specs.Way.{Graph}
 use Rattle.steps.proofs.Ways.{shortest-unique}
 use Rattle.entries.specs.Entry.{Entry, mark, long, pack}
 use Rattle.entries.specs.Filled.{Says, Filled}
-use Rattle.walking.specs.Route as walk
-use Rattle.walking.specs.Route.{Walk}
-use Rattle.walking.specs.Legs.{Leg, again, join}
+use Rattle.walker.specs.Route as walk
+use Rattle.walker.specs.Route.{Walk}
+use Rattle.walker.specs.Legs.{Leg, again, join}
 use Rattle.walking.specs.Read.{Routes}
 
 -- so many steps of one kind

@@ -10,12 +10,13 @@ use Rattle.lengths.specs.Order.{_⊕_}
 use Rattle.lengths.proofs.Order.{length-ext}
 use Rattle.floor.specs.Floor.{Map}
 use Rattle.steps.specs.Leading.{leadOf}
-use Rattle.walking.specs.declared.Walker.{Walker}
-use Rattle.walking.specs.declared.WalkedLeg.{WalkedLeg}
-use Rattle.walking.specs.Legs.{Leg, Legs}
-use Rattle.walking.specs.Reading.{Order, Run, done, more, Stands, Leads, Ahead}
+use Rattle.walker.specs.declared.Walker.{Walker}
+use Rattle.walker.specs.declared.WalkedLeg.{WalkedLeg}
+use Rattle.walker.specs.Legs.{Leg, Legs}
+use Rattle.walker.specs.Reading.{Order, Run, done, more, Stands, Leads}
+use Rattle.walker.proofs.Searching.{run-exists}
+use Rattle.walking.specs.Ahead.{Ahead}
 use Rattle.walking.proofs.LegsOf.{Other, legs-more, legs-of, legs-unique, no-legs}
-use Rattle.walking.proofs.Searching.{run-exists}
 
 abbrev pub leg-of : WalkedLeg → Leg
 leg-of r = record { heading = r .heading; count = r .count }

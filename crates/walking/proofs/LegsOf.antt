@@ -7,7 +7,7 @@ use Prim.Native.Nat.{ℕ, zero, suc, _*_, _<_}
 use native.Mathlib.Omega.{arith}
 use native.Mathlib.Decide.{ℕ-discrete}
 use lib.ListN.{length}
-use Rattle.walking.specs.Legs.{Leg, Legs, Proper, Turns, again, bytes, join}
+use Rattle.walker.specs.Legs.{Leg, Legs, Proper, Turns, again, bytes, join}
 
 pub length-bytes : (ls : List Leg) → length (bytes ls) ≡ 2 * length ls
 length-bytes [] = refl

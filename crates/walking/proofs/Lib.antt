@@ -1,12 +1,6 @@
-pub mod Greedy
-pub mod First
 pub mod LegsOf
-pub mod Searching
-pub mod Fitting
 pub mod LegSteps
 pub mod ShortLegs
-pub mod OnFloor
-pub mod Stepping
 pub mod LegsAhead
 pub mod Counting
 pub mod Writing

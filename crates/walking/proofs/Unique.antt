@@ -12,13 +12,13 @@ use Rattle.floor.specs.Floor.{Map}
 use Rattle.steps.specs.Step.{stepsOf}
 use Rattle.steps.specs.Way.{Reach}
 use Rattle.steps.proofs.Ways.{shortest-unique}
+use Rattle.walker.specs.Legs.{Leg, Legs, bytes}
+use Rattle.walker.proofs.OnFloor.{route-unique}
 use Rattle.walking.specs.declared.Reading.{Reading}
 use Rattle.walking.specs.declared.Reading.the-variants as reading
 use Rattle.walking.specs.declared.Way.{Way}
-use Rattle.walking.specs.Legs.{Leg, Legs, bytes}
 use Rattle.walking.specs.Read.{Routes, Reads}
 use Rattle.walking.proofs.LegsOf.{legs-unique}
-use Rattle.walking.proofs.OnFloor.{route-unique}
 use Rattle.walking.proofs.read_route.Reads as read-route
 
 module _ (m : Map) (Goal : ℕ → Type 0) (rank : ℕ → ℕ) (apart : (h k : ℕ) → h < 8 → k < 8 → rank h ≡ rank k → h ≡ k) (start : ℕ) (old : List ℕ) where

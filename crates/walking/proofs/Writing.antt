@@ -9,10 +9,11 @@ use lib.ListN.{getD, length, set, drop, length-set, length-append}
 use lib.Seq.{drop-cons}
 use Rattle.lengths.specs.declared.Length.{Length}
 use Rattle.floor.specs.Floor.{Map}
-use Rattle.walking.specs.declared.Walker.{Walker}
-use Rattle.walking.specs.declared.WalkedLeg.{WalkedLeg}
-use Rattle.walking.specs.Legs.{Leg, bytes}
-use Rattle.walking.specs.Reading.{Order, Stands, Leads, Ahead, Room, Written}
+use Rattle.walker.specs.declared.Walker.{Walker}
+use Rattle.walker.specs.declared.WalkedLeg.{WalkedLeg}
+use Rattle.walker.specs.Legs.{Leg, bytes}
+use Rattle.walker.specs.Reading.{Order, Stands, Leads}
+use Rattle.walking.specs.Ahead.{Ahead, Room, Written}
 use Rattle.walking.proofs.LegsOf.{length-bytes}
 use Rattle.walking.proofs.LegsAhead.{leg-of, ahead-exists, ahead-leg, ahead-end}
 

@@ -1,4 +1,2 @@
-pub mod Route
-pub mod Legs
 pub mod Read
-pub mod Reading
+pub mod Ahead

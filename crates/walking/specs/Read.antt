@@ -6,11 +6,11 @@ use Prim.Native.Nat.{ℕ, _*_, _≤_, _<_}
 use lib.ListN.{length, drop}
 use Rattle.lengths.specs.declared.Length.{Length}
 use Rattle.steps.specs.Way.{Graph, Reach}
+use Rattle.walker.specs.Route.{FirstRoute}
+use Rattle.walker.specs.Legs.{Leg, Legs, bytes}
 use Rattle.walking.specs.declared.Reading.{Reading}
 use Rattle.walking.specs.declared.Reading.the-variants as reading
 use Rattle.walking.specs.declared.Way.{Way}
-use Rattle.walking.specs.Route.{FirstRoute}
-use Rattle.walking.specs.Legs.{Leg, Legs, bytes}
 
 -- the first route from start to the goal, with its length and its legs
 pub record Routes (G : Graph) (Goal : ℕ → Type 0) (rank : ℕ → ℕ) (start : ℕ) (size : Length) (legs : List Leg) : Type 0 where

@@ -3,7 +3,7 @@
 -- Assumes nothing.
 use borrow.Author.Needs.{needs}
 use native.Mathlib.Omega.{arith}
-use Rattle.walking.specs.Reading.{numbered}
+use Rattle.walker.specs.Reading.{numbered}
 use Rattle.walking.proofs.Answering.{reads-no-room, reads-no-way, reads-way}
 use Rattle.walking.proofs.Counting.{room-enough}
 use Rattle.walking.proofs.read_route.Statement.{statement}

@@ -3,7 +3,7 @@
 use native.Mathlib.Omega.{arith}
 use lib.ListN.{getD}
 use Rattle.floor.specs.Floor.{mapOf}
-use Rattle.walking.specs.Reading.{numbered}
+use Rattle.walker.specs.Reading.{numbered}
 use Rattle.walking.proofs.Writing.{Writing, writing-end, writing-more, writing-room, writing-start}
 use Rattle.walking.proofs.write_legs.Statement.{statement}
 use Rattle.walking.proofs.write_legs.Tie as tie

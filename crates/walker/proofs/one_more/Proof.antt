@@ -1,9 +1,9 @@
--- `walking::one_more` meets its contract: an even heading is a straight step, an odd one a diagonal step.
+-- `walker::one_more` meets its contract: an even heading is a straight step, an odd one a diagonal step.
 -- Assumes nothing.
 use borrow.Author.Needs.{needs}
-use Rattle.walking.proofs.Stepping.{one-straight, one-diagonal}
-use Rattle.walking.proofs.one_more.Statement.{statement}
-use Rattle.walking.proofs.one_more.Tie as tie
+use Rattle.walker.proofs.Stepping.{one-straight, one-diagonal}
+use Rattle.walker.proofs.one_more.Statement.{statement}
+use Rattle.walker.proofs.one_more.Tie as tie
 
 add-t5 : tie.Need-add-t5
 add-t5 c = search needs

@@ -1,10 +1,10 @@
--- `walking::stand` meets its contract: no step is counted yet, and an entry is below 2³².
+-- `walker::stand` meets its contract: no step is counted yet, and an entry is below 2³².
 -- Assumes nothing.
 use mathlib.Core.Path.{refl}
 use borrow.Author.Needs.{needs}
 use native.Mathlib.Omega.{arith}
-use Rattle.walking.proofs.stand.Statement.{statement}
-use Rattle.walking.proofs.stand.Tie as tie
+use Rattle.walker.proofs.stand.Statement.{statement}
+use Rattle.walker.proofs.stand.Tie as tie
 
 next-heading-requires : tie.Need-next-heading-requires
 next-heading-requires c κs = search needs

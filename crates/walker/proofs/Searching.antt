@@ -19,7 +19,7 @@ use Rattle.steps.specs.declared.Lead.{Lead}
 use Rattle.steps.specs.declared.Lead.the-variants.{To, Nowhere}
 use Rattle.steps.specs.Heading.{weight}
 use Rattle.steps.specs.Step.{one-step}
-use Rattle.walking.specs.Reading.{Order, Run, done, more, cost, fits, fitsLead, next, seek}
+use Rattle.walker.specs.Reading.{Order, Run, done, more, cost, fits, fitsLead, next, seek}
 
 -- what a step costs
 pub cost-straight : (h : ℕ) → h % 2 ≡ 0 → 65536 ≡ cost h

@@ -1,12 +1,12 @@
--- `walking::Walker::leg` meets its contract: each turn is a step by the one heading, and the numbers fall, so that the run ends; where another heading comes next, the leg is whole.
+-- `walker::Walker::leg` meets its contract: each turn is a step by the one heading, and the numbers fall, so that the run ends; where another heading comes next, the leg is whole.
 -- Assumes nothing.
 use native.Mathlib.Omega.{arith}
 use lib.ListN.{getD}
 use Rattle.floor.specs.Floor.{mapOf}
-use Rattle.walking.specs.Reading.{numbered, Going}
-use Rattle.walking.proofs.Stepping.{going-leads, going-more, going-start, moves}
-use Rattle.walking.proofs.Walker.leg.Statement.{statement}
-use Rattle.walking.proofs.Walker.leg.Tie as tie
+use Rattle.walker.specs.Reading.{numbered, Going}
+use Rattle.walker.proofs.Stepping.{going-leads, going-more, going-start, moves}
+use Rattle.walker.proofs.Walker.leg.Statement.{statement}
+use Rattle.walker.proofs.Walker.leg.Tie as tie
 
 abbrev Inv-loop : tie.InvT-loop
 Inv-loop width height map table heading walker₀ count₀ walker count =

@@ -21,9 +21,9 @@ use Rattle.steps.proofs.Ways.{tail-shortest}
 use Rattle.entries.specs.Entry.{long, pack, partsOf, malformed, read, entryAt}
 use Rattle.entries.specs.Filled.{Says}
 use Rattle.entries.proofs.Packing.{read-small, said-small, formed, pack-read}
-use Rattle.walking.specs.Reading.{Order, Run, done, more, cost, fits}
-use Rattle.walking.proofs.Greedy.{OnShort, Follows, arrived, take, on-entries, entries-on}
-use Rattle.walking.proofs.Searching.{Next, stop, goes, next-is, cost-pos, fits-yes, yes-fits}
+use Rattle.walker.specs.Reading.{Order, Run, done, more, cost, fits}
+use Rattle.walker.proofs.Greedy.{OnShort, Follows, arrived, take, on-entries, entries-on}
+use Rattle.walker.proofs.Searching.{Next, stop, goes, next-is, cost-pos, fits-yes, yes-fits}
 
 pub getD-any : (t : List ℕ) (i a b : ℕ) → i < length t → getD t i a ≡ getD t i b
 getD-any [] i a b h = absurd (omega arith)

@@ -12,9 +12,9 @@ use Rattle.lengths.specs.declared.Length.{Length}
 use Rattle.lengths.specs.Order.{zeroLength, _⊕_, steps}
 use Rattle.steps.specs.Way.{Graph, Way, stay, step, Shortest}
 use Rattle.steps.proofs.Ways.{shortest-unique, tail-shortest}
-use Rattle.walking.specs.Route as walk
-use Rattle.walking.specs.Route.{Before, FirstRoute, ShortRoute, Walk}
-use Rattle.walking.proofs.Greedy.{OnShort, Follows, arrived, take, follows-shortest, goal-stays, goal-zero}
+use Rattle.walker.specs.Route as walk
+use Rattle.walker.specs.Route.{Before, FirstRoute, ShortRoute, Walk}
+use Rattle.walker.proofs.Greedy.{OnShort, Follows, arrived, take, follows-shortest, goal-stays, goal-zero}
 
 -- a walk is a way, and a way has a walk
 walk-way : {G : Graph} {x y : ℕ} {hs : List ℕ} {l : Length} → Walk G x y hs l → Way G x y l

@@ -1,13 +1,13 @@
--- `walking::fits_step` meets its contract: a permitted step ends on the floor, so its end has an entry, and the test is the definition's.
+-- `walker::fits_step` meets its contract: a permitted step ends on the floor, so its end has an entry, and the test is the definition's.
 -- Assumes nothing.
 use mathlib.Core.Path.{sym, _∙_}
 use borrow.Author.Needs.{needs}
 use native.Mathlib.Omega.{arith}
 use Rattle.floor.specs.Floor.{mapOf}
-use Rattle.walking.proofs.OnFloor.{lands}
-use Rattle.walking.proofs.Searching.{fits-nowhere, fits-to}
-use Rattle.walking.proofs.fits_step.Statement.{statement}
-use Rattle.walking.proofs.fits_step.Tie as tie
+use Rattle.walker.proofs.OnFloor.{lands}
+use Rattle.walker.proofs.Searching.{fits-nowhere, fits-to}
+use Rattle.walker.proofs.fits_step.Statement.{statement}
+use Rattle.walker.proofs.fits_step.Tie as tie
 
 lead-of-requires : tie.Need-lead-of-requires
 lead-of-requires c κs = search needs

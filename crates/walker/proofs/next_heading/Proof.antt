@@ -1,4 +1,4 @@
--- `walking::next_heading` meets its contract: the search from the heading on finds what the whole search finds.
+-- `walker::next_heading` meets its contract: the search from the heading on finds what the whole search finds.
 -- Assumes nothing.
 use mathlib.Core.Path.{_≡_, refl}
 use Prim.Native.Nat.{_-_}
@@ -6,10 +6,10 @@ use borrow.Author.Needs.{needs}
 use native.Mathlib.Omega.{arith}
 use Rattle.floor.specs.Floor.{mapOf}
 use Rattle.steps.specs.Leading.{leadOf}
-use Rattle.walking.specs.Reading.{numbered, fits, next, seek}
-use Rattle.walking.proofs.Searching.{seek-found, seek-goes, seek-none}
-use Rattle.walking.proofs.next_heading.Statement.{statement}
-use Rattle.walking.proofs.next_heading.Tie as tie
+use Rattle.walker.specs.Reading.{numbered, fits, next, seek}
+use Rattle.walker.proofs.Searching.{seek-found, seek-goes, seek-none}
+use Rattle.walker.proofs.next_heading.Statement.{statement}
+use Rattle.walker.proofs.next_heading.Tie as tie
 
 abbrev Inv-loop : tie.InvT-loop
 Inv-loop width height map table cell heading₀ heading =

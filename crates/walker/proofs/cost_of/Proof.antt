@@ -1,9 +1,9 @@
--- `walking::cost_of` meets its contract: an even heading is a straight step, an odd one a diagonal step.
+-- `walker::cost_of` meets its contract: an even heading is a straight step, an odd one a diagonal step.
 -- Assumes nothing.
 use native.Mathlib.Omega.{arith}
-use Rattle.walking.proofs.Searching.{cost-straight, cost-diagonal}
-use Rattle.walking.proofs.cost_of.Statement.{statement}
-use Rattle.walking.proofs.cost_of.Tie as tie
+use Rattle.walker.proofs.Searching.{cost-straight, cost-diagonal}
+use Rattle.walker.proofs.cost_of.Statement.{statement}
+use Rattle.walker.proofs.cost_of.Tie as tie
 
 returns : tie.Need-returns
 returns c = (cost-straight _ (c .if1 .taken), omega arith)

@@ -15,11 +15,11 @@ use Rattle.steps.specs.Heading.{weight}
 use Rattle.floor.specs.Inner.{Sound}
 use Rattle.steps.specs.Leading.{leadOf}
 use Rattle.steps.specs.Step.{one-step}
-use Rattle.walking.specs.declared.Walker.{Walker}
-use Rattle.walking.specs.Legs.{again}
-use Rattle.walking.specs.Reading.{Order, Run, done, more, cost, fits, next, Stands, Steps, Stepped, Split, Going, Leads}
-use Rattle.walking.proofs.OnFloor.{lands, leg-short}
-use Rattle.walking.proofs.Searching.{Next, stop, goes, next-is, cost-pos, fits-yes, run-exists}
+use Rattle.walker.specs.declared.Walker.{Walker}
+use Rattle.walker.specs.Legs.{again}
+use Rattle.walker.specs.Reading.{Order, Run, done, more, cost, fits, next, Stands, Steps, Stepped, Split, Going, Leads}
+use Rattle.walker.proofs.OnFloor.{lands, leg-short}
+use Rattle.walker.proofs.Searching.{Next, stop, goes, next-is, cost-pos, fits-yes, run-exists}
 
 -- a length with one step more
 pub one-straight : (l : Length) (h : ℕ) → h % 2 ≡ 0 → record { straight = l .straight + 1; diagonal = l .diagonal } ≡ l ⊕ weight h

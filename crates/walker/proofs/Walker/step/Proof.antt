@@ -1,13 +1,13 @@
--- `walking::Walker::step` meets its contract: the walker's next heading is one that fits, so it leads somewhere, and the number falls by the step.
+-- `walker::Walker::step` meets its contract: the walker's next heading is one that fits, so it leads somewhere, and the number falls by the step.
 -- Assumes nothing.
 use mathlib.Core.Path.{sym, _∙_}
 use borrow.Author.Needs.{needs}
 use Rattle.floor.specs.Floor.{mapOf}
-use Rattle.walking.specs.Reading.{numbered}
-use Rattle.walking.proofs.OnFloor.{lands}
-use Rattle.walking.proofs.Stepping.{room-to-step, step-nowhere, step-still, step-to}
-use Rattle.walking.proofs.Walker.step.Statement.{statement}
-use Rattle.walking.proofs.Walker.step.Tie as tie
+use Rattle.walker.specs.Reading.{numbered}
+use Rattle.walker.proofs.OnFloor.{lands}
+use Rattle.walker.proofs.Stepping.{room-to-step, step-nowhere, step-still, step-to}
+use Rattle.walker.proofs.Walker.step.Statement.{statement}
+use Rattle.walker.proofs.Walker.step.Tie as tie
 
 returns : tie.Need-returns
 returns c = step-still _ _ _ _ (c .if1 .taken)

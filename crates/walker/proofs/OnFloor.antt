@@ -22,13 +22,13 @@ use Rattle.entries.specs.Entry.{Entry, mark, long, pack, malformed, read, entry
 use Rattle.entries.specs.Filled.{Says, Filled}
 use Rattle.entries.proofs.Packing.{read-mark, pack-read}
 use Rattle.entries.proofs.Judging.{filled-says, filled-right}
-use Rattle.walking.specs.Route as walk
-use Rattle.walking.specs.Route.{FirstRoute, Walk}
-use Rattle.walking.specs.Legs.{again}
-use Rattle.walking.specs.Reading.{Order, Run, done, more}
-use Rattle.walking.proofs.First.{first-unique, follows-first}
-use Rattle.walking.proofs.Fitting.{getD-any, run-follows}
-use Rattle.walking.proofs.ShortLegs.{run-short}
+use Rattle.walker.specs.Route as walk
+use Rattle.walker.specs.Route.{FirstRoute, Walk}
+use Rattle.walker.specs.Legs.{again}
+use Rattle.walker.specs.Reading.{Order, Run, done, more}
+use Rattle.walker.proofs.First.{first-unique, follows-first}
+use Rattle.walker.proofs.Fitting.{getD-any, run-follows}
+use Rattle.walker.proofs.ShortRuns.{run-short}
 
 -- both ends of a step lie on the floor
 on-floor : (m : Map) (h x y : ℕ) → (stepsOf m) .Step h x y → (x < cells m) × (y < cells m)

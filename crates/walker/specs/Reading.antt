@@ -1,12 +1,12 @@
--- What the functions inside the reader compute and leave: the next heading, the walker, its legs. Over any order of the eight headings.
+-- What the functions inside the reader compute: the next heading, the walker, its steps and a leg. Over any order of the eight headings.
 -- Assumes nothing.
 use mathlib.Core.Path.{_≡_, refl}
 use mathlib.Core.Logic.{_≢_}
 use mathlib.Core.Bool.{Bool, false}
-use mathlib.Core.List.{List, [], _∷_, _++_}
-use Prim.Native.Nat.{ℕ, zero, suc, _+_, _*_, _≤_, _<_}
+use mathlib.Core.List.{List, [], _∷_}
+use Prim.Native.Nat.{ℕ, zero, suc, _+_, _≤_, _<_}
 use lib.Dec.{eqb}
-use lib.ListN.{getD, length, drop}
+use lib.ListN.{getD}
 use Rattle.given.specs.Given.{pick}
 use Rattle.lengths.specs.declared.Length.{Length}
 use Rattle.lengths.specs.Order.{zeroLength, _⊕_, steps}
@@ -16,10 +16,9 @@ use Rattle.floor.specs.Floor.{Map, cells}
 use Rattle.steps.specs.Heading.{weight}
 use Rattle.steps.specs.Leading.{leadOf}
 use Rattle.entries.specs.Entry.{long, pack}
-use Rattle.walking.specs.declared.Walker.{Walker}
-use Rattle.walking.specs.declared.WalkedLeg.{WalkedLeg}
-use Rattle.walking.specs.declared.Way.{Way}
-use Rattle.walking.specs.Legs.{Leg, Legs, again, bytes}
+use Rattle.walker.specs.declared.Walker.{Walker}
+use Rattle.walker.specs.declared.WalkedLeg.{WalkedLeg}
+use Rattle.walker.specs.Legs.{again}
 
 -- an order of the eight headings: which one stands at each place, and the place of each
 pub record Order : Type 0 where
@@ -115,24 +114,3 @@ pub record Leads (m : Map) (table : List ℕ) (o : Order) (w : Walker) (r : Walk
   pub turns : r .after .next ≢ w .next
   pub some : 0 < r .count
   pub short : r .count ≤ 127
-
--- ls are the legs ahead of w, and total is the length at their end
-pub record Ahead (m : Map) (table : List ℕ) (o : Order) (w : Walker) (ls : List Leg) (total : Length) : Type 0 where
-  pub headings : List ℕ
-  pub left : Length
-  pub run : Run (leadOf m) table (o .at) (w .cell) headings left
-  pub legs : Legs headings ls
-  pub sum : w .length ⊕ left ≡ total
-
--- the legs ahead counted, with the length at their end
-pub record Counted (m : Map) (table : List ℕ) (o : Order) (w : Walker) (r : Way) : Type 0 where
-  pub exact : (ls : List Leg) (total : Length) → Ahead m table o w ls total → (r .legs ≡ length ls) × (r .length ≡ total)
-  pub small : r .legs < 4294967296
-
--- there is room for the legs ahead
-abbrev pub Room : (m : Map) (table : List ℕ) (o : Order) (w : Walker) → List ℕ → Type 0
-Room m table o w old = (ls : List Leg) (total : Length) → Ahead m table o w ls total → 2 * length ls ≤ length old
-
--- the legs ahead written from the front
-abbrev pub Written : (m : Map) (table : List ℕ) (o : Order) (w : Walker) → (old new : List ℕ) → Type 0
-Written m table o w old new = (ls : List Leg) (total : Length) → Ahead m table o w ls total → new ≡ bytes ls ++ drop (2 * length ls) old
