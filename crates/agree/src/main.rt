@@ -12,8 +12,6 @@ use makings::left::TABLES;
 use makings::tally;
 use makings::tally::COUNTS;
 use solver::sheet::SCRATCH;
-use trials::numbers;
-use trials::planted;
 
 // Compares lengths and distances.
 fn try_numbers(counts: &mut [u64; COUNTS]) {

@@ -7,7 +7,7 @@ use Rattle.lengths.proofs.Keys.{straightKey, key}
 use Rattle.steps.specs.Heading.{weight, byParity}
 use Rattle.offers.specs.Work.{span, extra, lateOf, stepped}
 use Rattle.offers.proofs.Numbers.{late-bit, late-rest, early-rest, straight, diagonal}
-use Rattle.waves.specs.Store.{keyOf}
+use Rattle.storing.specs.Store.{keyOf}
 
 -- a number made of its parts is taken apart
 apart : (q r : ℕ) → r < span → ((q * span + r) / span ≡ q) × ((q * span + r) % span ≡ r)

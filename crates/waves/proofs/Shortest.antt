@@ -2,13 +2,13 @@
 -- its support does and a step adds its key; that no step would lower a number says, by the keys that numbers stand for and in whose order they
 -- are, that no neighbour offers less.
 -- Assumes nothing.
-use mathlib.Core.Path.{_≡_, refl, ap, ap₂, sym, subst, subst₂, _∙_}
+use mathlib.Core.Path.{_≡_, ap, ap₂, sym, subst, subst₂, _∙_}
 use mathlib.Core.Logic.{_⊎_, inl, inr}
 use mathlib.Core.List.{List}
 use Prim.Native.Nat.{ℕ, zero, suc, _+_, _-_, _*_, _/_, _%_, _≤_, _<_}
 use native.Mathlib.Omega.{arith}
 use native.Mathlib.Nat.{div-add-mod', le-refl, mod-lt}
-use native.Mathlib.Decide.{decLe, ℕ-discrete}
+use native.Mathlib.Decide.{ℕ-discrete}
 use Rattle.lengths.specs.declared.Length.{Length}
 use Rattle.lengths.specs.Order.{zeroLength, _⊕_, _⊑_}
 use Rattle.lengths.proofs.Keys.{straightKey, diagonalKey, key, key-order, pair, pair-back}
@@ -21,25 +21,11 @@ use Rattle.entries.specs.Made.{Least, Made}
 use Rattle.entries.proofs.Neighbours.{no-mark, long-inj, sound}
 use Rattle.offers.specs.Work.{unreached, stride, span, stepped, at, spot, WorkStep}
 use Rattle.passes.specs.Solved.{Found, Solved}
-use Rattle.waves.specs.Store.{keyOf, entryBy, entryOf, Keyed}
+use Rattle.storing.specs.Store.{keyOf, entryOf, Keyed}
+use Rattle.storing.proofs.NumberKinds.{Kind, shut, waits, reached, kind}
 use Rattle.offers.proofs.Numbers.{like, stretch}
 use Rattle.waves.proofs.Adds.{steps-add, key-monotone}
 use Rattle.waves.proofs.OnWork.{Mapped, spot-column, spot-row, back, to-work, from-work, opens}
-
--- what a number can be
-pub data Kind (v : ℕ) : Type 0 where
-  shut : v ≡ 0 → entryOf v ≡ mark → Kind v
-  waits : unreached ≤ v → entryOf v ≡ mark → Kind v
-  reached : 0 < v → v < unreached → entryOf v ≡ long (pair (keyOf v - straightKey)) → Kind v
-
-pub kind : (v : ℕ) → Kind v
-unfolding entryOf
-kind v = by (ℕ-discrete v 0) refl (decLe (suc v) unreached) refl
-  where
-    by : (a : Dec (v ≡ 0)) → ℕ-discrete v 0 ≡ a → (b : Dec (v < unreached)) → decLe (suc v) unreached ≡ b → Kind v
-    by (yes e) p b q = shut e (ap (λ (a : Dec (v ≡ 0)). entryBy v a (decLe (suc v) unreached)) p)
-    by (no e) p (yes b) q = reached (omega arith) b (ap₂ (entryBy v) p q)
-    by (no e) p (no b) q = waits (omega arith) (ap₂ (entryBy v) p q)
 
 module _ (floor : List ℕ) (goal : ℕ) (x : List ℕ) (s : Solved floor goal x) where
   -- each number that was found stands for a length: that of the cell it was found from, and the step

@@ -20,13 +20,13 @@ use Rattle.steps.proofs.Leads.{open-column, open-row, floor, Past, past}
 use Rattle.entries.specs.Filled.{Filled}
 use Rattle.offers.specs.Work.{unreached, stride, largest, span, at, spot, Inside}
 use Rattle.passes.specs.Solved.{Loaded, Solved}
-use Rattle.waves.specs.Load.{numberOf, loaded, Prefix}
-use Rattle.waves.specs.Store.{entryOf, Storable, Stored}
+use Rattle.loading.specs.Load.{numberOf, loaded, Prefix}
+use Rattle.storing.specs.Store.{entryOf, Storable, Stored}
 use Rattle.waves.specs.Fill.{Fillable, Scratch}
 use Rattle.offers.proofs.Changed.{each, waiting-set}
 use Rattle.waves.proofs.OnWork.{Mapped}
 use Rattle.waves.proofs.Shortest.{keyed, says}
-use Rattle.waves.proofs.MapLoaded.{prefix-all}
+use Rattle.loading.proofs.MapLoaded.{prefix-all}
 
 -- what is read inside a list does not depend on what stands for the rest
 getD-any : (t : List ℕ) (y d e : ℕ) → y < length t → getD t y d ≡ getD t y e

@@ -7,7 +7,7 @@ use lib.ListN.{length}
 use Rattle.floor.specs.Floor.{Map, Open, cells}
 use Rattle.floor.specs.Inner.{Sound}
 use Rattle.offers.specs.Work.{largest}
-use Rattle.waves.specs.Load.{Tall, Cleared}
+use Rattle.loading.specs.Load.{Tall, Cleared}
 
 -- the goal is a cell of the floor, and open
 pub record OpenGoal (m : Map) (goal : ℕ) : Type 0 where

@@ -10,9 +10,6 @@ ghost use Rattle.steps.specs.Way.{Only};
 ghost use Rattle.entries.specs.Filled.{Filled};
 ghost use Rattle.waves.specs.Fill.{OpenGoal, Fillable, Scratch};
 
-mod loading;
-mod storing;
-
 // The rows that the small scratch has room for, and the places of the small and of the large scratch.
 const LOW: usize = 18;
 

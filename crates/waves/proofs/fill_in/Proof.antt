@@ -7,7 +7,7 @@ use native.Mathlib.Omega.{arith}
 use lib.ListN.{length-set}
 use borrow.Author.Needs.{needs}
 use Rattle.offers.specs.Work.{largest, spot}
-use Rattle.waves.proofs.MapLoaded.{prefix-none}
+use Rattle.loading.proofs.MapLoaded.{prefix-none}
 use Rattle.waves.proofs.WholeFill.{goal-on, ready, storable, filled}
 use Rattle.waves.proofs.fill_in.Statement.{statement}
 use Rattle.waves.proofs.fill_in.Tie as tie

@@ -1,0 +1,55 @@
+-- `loading::load_map` meets its contract. The invariant: the rows before this one are loaded.
+-- Assumes nothing.
+use mathlib.Core.Path.{refl, _∙_}
+use Prim.Native.Nat.{_-_}
+use native.Mathlib.Omega.{arith}
+use Rattle.floor.specs.Floor.{mapOf}
+use Rattle.loading.proofs.Kept.{RowsLoaded}
+use Rattle.loading.proofs.MapLoaded.{prefix-row, rows-all}
+use Rattle.loading.proofs.load_map.Statement.{statement}
+use Rattle.loading.proofs.load_map.Tie as tie
+
+abbrev Inv-loop : tie.InvT-loop
+Inv-loop work₀ width height map row₀ work row = RowsLoaded (mapOf width height map) work₀ row work
+
+abbrev μ-loop : tie.MeasureT-loop
+μ-loop work₀ width height map row₀ work row = height - row
+
+loop-holds : tie.Need-loop-holds Inv-loop μ-loop
+loop-holds c = record { inside = omega arith; size = refl; prefix = c .before .before .pre .1 }
+
+load-row-requires : tie.Need-load-row-requires Inv-loop μ-loop
+load-row-requires c κs = (c .before .before .before .before .before .pre .0, (c .before .loop-test .taken, c .before .before .loop .inv .prefix))
+
+add-row : tie.Need-add-row Inv-loop μ-loop
+add-row c = omega (arith, c .before .before .before .before .loop-test .taken)
+
+loop-less : tie.Need-loop-less Inv-loop μ-loop
+loop-less c = omega (arith, c .before .before .before .before .loop-test .taken)
+
+loop-again : tie.Need-loop-again Inv-loop μ-loop
+loop-again c = record {
+  inside = omega (arith, c .before .before .before .before .loop-test .taken);
+  size = c .before .before .load-row .kept .0 ∙ c .before .before .before .before .before .loop .inv .size;
+  prefix = prefix-row _ (c .before .before .before .before .before .before .before .before .pre .0) _ _ (c .before .before .load-row .ensures);
+}
+
+same-length : tie.Need-same-length Inv-loop μ-loop
+same-length c = c .before .loop .inv .size
+
+returns : tie.Need-returns Inv-loop μ-loop
+returns c = rows-all _ _ _ _ (c .before .loop .inv) (c .loop-test .left)
+
+pub load-map-spec : {M : Type 1} → statement M
+load-map-spec =
+    tie.close
+    (tie.spec
+    Inv-loop
+    μ-loop
+    loop-holds
+    load-row-requires
+    add-row
+    loop-less
+    loop-again
+    same-length
+    returns)

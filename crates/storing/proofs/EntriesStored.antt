@@ -1,0 +1,155 @@
+-- The work array's numbers as a table's entries, cell after cell.
+-- Assumes nothing.
+use mathlib.Core.Path.{_≡_, ap, ap₂, sym, subst, _∙_}
+use mathlib.Core.Logic.{_≢_}
+use mathlib.Core.List.{List}
+use Prim.Native.Nat.{ℕ, _+_, _-_, _*_, _/_, _%_, _≤_, _<_}
+use native.Mathlib.Omega.{arith}
+use native.Mathlib.Nat.{mul-le-mul, mul-le-mul-right, mod-eq-of-lt, div-eq-of-lt, add-zero, mul-add-mod-self-right, mul-add-div-right}
+use lib.ListN.{length, set, length-set}
+use Rattle.lengths.specs.declared.Length.{Length}
+use Rattle.lengths.proofs.Keys.{straightKey, diagonalKey, key, straightOf, diagonalOf, pair-back}
+use Rattle.entries.specs.Entry.{mark, pack}
+use Rattle.offers.specs.Work.{unreached, span, at, spot}
+use Rattle.storing.specs.Store.{keyOf, entryOf, Keyed, Readable, Stored}
+use Rattle.offers.proofs.Changed.{each}
+use Rattle.storing.proofs.NumberKinds.{Kind, shut, waits, reached, kind}
+use Rattle.storing.proofs.Kept.{CellsStored, RowsStored}
+
+pub packed-shut : (v : ℕ) → v ≡ 0 → pack mark ≡ pack (entryOf v)
+packed-shut v e = by (kind v)
+  where
+    by : Kind v → pack mark ≡ pack (entryOf v)
+    by (shut d p) = ap pack (sym p)
+    by (waits d p) = ap pack (sym p)
+    by (reached o f p) = absurd (omega arith)
+
+pub packed-waits : (v : ℕ) → unreached ≤ v → pack mark ≡ pack (entryOf v)
+packed-waits v e = by (kind v)
+  where
+    by : Kind v → pack mark ≡ pack (entryOf v)
+    by (shut d p) = ap pack (sym p)
+    by (waits d p) = ap pack (sym p)
+    by (reached o f p) = absurd (omega arith)
+
+pub packed-length : (v : ℕ) → v ≢ 0 → v < unreached
+    → straightOf (keyOf v - straightKey) * 65536 + diagonalOf (keyOf v - straightKey) ≡ pack (entryOf v)
+packed-length v e f = by (kind v)
+  where
+    by : Kind v → straightOf (keyOf v - straightKey) * 65536 + diagonalOf (keyOf v - straightKey) ≡ pack (entryOf v)
+    by (shut d p) = absurd (e d)
+    by (waits d p) = absurd (omega arith)
+    by (reached o g p) = ap pack (sym p)
+
+-- how the code divides 5741 times a remainder by 13860: nearly by a product, and m is how often 13860 goes into what is left
+abbrev near : ℕ → ℕ
+near r = r * 27145 / 65536
+
+abbrev left : ℕ → ℕ
+left r = r * 5741 - near r * straightKey
+
+record Divided (r m : ℕ) : Type 0 where
+  less : left r - m * straightKey < straightKey
+  sum : r * 5741 ≡ (near r + m) * straightKey + (left r - m * straightKey)
+
+divided : (r m : ℕ) → r < span → m ≡ left r / straightKey → Divided r m
+divided r m b e = record { less = omega arith; sum = omega arith }
+
+-- so what remains is the diagonal part of a key with this remainder, since 5741 · 19601 = 13860 · 8119 + 1
+remains : (n r t d : ℕ) → r < straightKey → d < straightKey → r * 5741 ≡ t * straightKey + d → diagonalOf (straightKey * n + r) ≡ d
+remains n r t d b less sum =
+    let rest : (straightKey * n + r) % straightKey ≡ r = omega arith in
+    let again : r * diagonalKey ≡ (t + r) * straightKey + d = omega arith in
+    ap (λ (z : ℕ). z * diagonalKey % straightKey) rest ∙ ap (λ (z : ℕ). z % straightKey) again
+    ∙ mul-add-mod-self-right (t + r) straightKey d ∙ mod-eq-of-lt less
+
+-- and the straight part is what the diagonal steps leave
+balance : (n r t d s : ℕ) → straightKey * n + r ≡ straightKey * s + diagonalKey * d → r * 5741 ≡ t * straightKey + d
+    → n + diagonalKey * t ≡ s + 8119 * r
+balance n r t d s e f = omega arith
+
+-- the parts of the key that a number stands for, as the code finds them; they can be packed
+pub record Parts (v m : ℕ) : Type 0 where
+  pub wave : 0 < v / span
+  pub diagonal : left (v % span) - m * straightKey ≡ diagonalOf (keyOf v - straightKey)
+  pub straight : v / span - 1 + diagonalKey * (near (v % span) + m) ≡ straightOf (keyOf v - straightKey) + 8119 * (v % span)
+  pub few : straightOf (keyOf v - straightKey) < 17000
+
+pub parts : (v m : ℕ) → Readable v → v ≢ 0 → v < unreached → m ≡ left (v % span) / straightKey → Parts v m
+parts v m r e f is = record {
+  wave = bounds .0;
+  diagonal = sym here;
+  straight = even ∙ ap (λ (z : ℕ). z + 8119 * (v % span)) (sym there-straight);
+  few = subst (λ (z : ℕ). z < 17000) (sym there-straight) (bounds .2);
+}
+  where
+    k : Keyed v
+    k = r .keyed (omega arith) f
+
+    l : Length
+    l = k .length
+
+    d : Divided (v % span) m
+    d = divided (v % span) m (omega arith) is
+
+    bounds : (0 < v / span) × (l .diagonal < straightKey) × (l .straight < 17000)
+    bounds = omega (arith, k .sum, k .rest, r .below f)
+
+    same : keyOf v - straightKey ≡ key l
+    same = omega (arith, k .sum)
+
+    parted : keyOf v - straightKey ≡ straightKey * (v / span - 1) + v % span
+    parted = omega (arith, bounds .0)
+
+    here : diagonalOf (keyOf v - straightKey) ≡ left (v % span) - m * straightKey
+    here = ap diagonalOf parted ∙ remains (v / span - 1) (v % span) (near (v % span) + m) _ (k .rest) (d .less) (d .sum)
+
+    there : diagonalOf (keyOf v - straightKey) ≡ l .diagonal
+    there = ap diagonalOf same ∙ ap (λ (z : Length). z .diagonal) (pair-back l (bounds .1))
+
+    there-straight : straightOf (keyOf v - straightKey) ≡ l .straight
+    there-straight = ap straightOf same ∙ ap (λ (z : Length). z .straight) (pair-back l (bounds .1))
+
+    even : v / span - 1 + diagonalKey * (near (v % span) + m) ≡ l .straight + 8119 * (v % span)
+    even =
+        balance (v / span - 1) (v % span) (near (v % span) + m) (left (v % span) - m * straightKey) (l .straight)
+        (sym parted ∙ same ∙ ap (λ (z : ℕ). straightKey * l .straight + diagonalKey * z) (sym there ∙ here)) (d .sum)
+
+module _ (w h : ℕ) (x : List ℕ) where
+  stored-more : (c r v : ℕ) (t : List ℕ) → c < w → r < h → Stored w h x (r * w + c) t → v ≡ pack (entryOf (at x (spot c r)))
+      → Stored w h x (r * w + (c + 1)) (set t (r * w + c) v)
+  stored-more c r v t p q i e =
+      let in-t : r * w + c < length t = omega (arith, i .size, mul-le-mul-right w q) in
+      let pos : 0 < w = omega arith in
+      let a : (r * w + c) % w ≡ c = mul-add-mod-self-right r w c ∙ mod-eq-of-lt p in
+      let b : (r * w + c) / w ≡ r = mul-add-div-right pos r c ∙ ap (λ (z : ℕ). r + z) (div-eq-of-lt p) ∙ add-zero r in
+      record {
+        size = length-set t (r * w + c) v ∙ i .size;
+        done =
+            each t (r * w + c) v in-t (λ y u. y < r * w + (c + 1) → u ≡ pack (entryOf (at x (spot (y % w) (y / w)))))
+            (λ k. e ∙ ap₂ (λ (m n : ℕ). pack (entryOf (at x (spot m n)))) (sym a) (sym b)) (λ y d k. i .done y (omega arith));
+      }
+
+  pub cells-none : (r : ℕ) (t : List ℕ) → Stored w h x (r * w) t → CellsStored w h x 0 r t
+  cells-none r t i = record { inside = omega arith; stored = let e : r * w ≡ r * w + 0 = omega arith in subst (λ (n : ℕ). Stored w h x n t) e i }
+
+  pub cells-more : (c r v : ℕ) (t : List ℕ) → CellsStored w h x c r t → c < w → r < h → v ≡ pack (entryOf (at x (spot c r)))
+      → CellsStored w h x (c + 1) r (set t (r * w + c) v)
+  cells-more c r v t i p q e = record { inside = omega arith; stored = stored-more c r v t p q (i .stored) e }
+
+  pub cells-all : (c r : ℕ) (t : List ℕ) → CellsStored w h x c r t → w ≤ c → Stored w h x ((r + 1) * w) t
+  cells-all c r t i p = let e : r * w + c ≡ (r + 1) * w = omega (arith, i .inside) in subst (λ (n : ℕ). Stored w h x n t) e (i .stored)
+
+  pub rows-none : (t : List ℕ) → length t ≡ h * w → RowsStored w h x 0 t
+  rows-none t e = record { inside = omega arith; stored = record { size = e; done = λ y k. absurd (omega arith) } }
+
+  pub rows-all : (r : ℕ) (t : List ℕ) → RowsStored w h x r t → h ≤ r → Stored w h x (h * w) t
+  rows-all r t i p = let e : r ≡ h = omega (arith, i .inside) in subst (λ (n : ℕ). Stored w h x (n * w) t) e (i .stored)
+
+-- an entry's place is in the table, and fits
+pub record Placed (w h c r : ℕ) : Type 0 where
+  pub inside : r * w + c < h * w
+  pub small : h * w ≤ 16384
+
+pub placed : (w h c r : ℕ) → w ≤ 128 → h ≤ 128 → c < w → r < h → Placed w h c r
+placed w h c r p q a b = record { inside = omega (arith, mul-le-mul-right w b); small = mul-le-mul q p }

@@ -1,0 +1,80 @@
+// The work array's numbers into the table.
+ghost use mathlib.Core.Path.{_≡_};
+ghost use Prim.Native.Nat.{_+_, _*_, _/_, _<_};
+ghost use lib.ListN.{length};
+ghost use Rattle.lengths.proofs.Keys.{straightKey};
+ghost use Rattle.entries.specs.Entry.{pack};
+ghost use Rattle.storing.specs.Store.{entryOf, Readable, Storable, Stored};
+use offers::STRAIGHT;
+use offers::STRIDE;
+use offers::UNREACHED;
+
+// The mark: a blocked cell, or an open one without a way to the goal.
+const MARK: u32 = 4294967295;
+
+// What a straight and a diagonal step weigh in a key. So 13860 diagonal steps weigh what 19601 straight ones do.
+const STRAIGHT_KEY: u32 = 13860;
+
+const DIAGONAL_KEY: u32 = 19601;
+
+// A remainder of one is 5741 diagonal steps, and 8119 straight ones fewer: 5741 * 19601 = 8119 * 13860 + 1.
+const MORE: u32 = 5741;
+
+const FEWER: u32 = 8119;
+
+// How often 13860 goes into a number below twice that.
+fn whole_of(number: u32) -> u32
+    requires { ⌜ number < 2 * straightKey ⌝ }
+    ensures { λ r. ⌜ r ≡ number / straightKey ⌝ }
+{
+    if number < STRAIGHT_KEY { 0 } else { 1 }
+}
+
+// The table's entry for a number: the remainder's diagonal steps are 5741 * rest, of which each 13860 are straight ones. How often 13860 goes
+// into them is found nearly by a product, and then by one comparison, without a division, so that many entries are made at once.
+fn entry_of(number: u32) -> u32
+    requires { ⌜ Readable number ⌝ }
+    ensures { λ r. ⌜ r ≡ pack (entryOf number) ⌝ }
+{
+    if number == 0 {
+        return MARK;
+    }
+    if UNREACHED <= number {
+        return MARK;
+    }
+    let wave = number / STRAIGHT;
+    let rest = number % STRAIGHT;
+    let near = rest * 27145 / 65536;
+    let left = rest * MORE - near * STRAIGHT_KEY;
+    let more = whole_of(left);
+    let diagonal = left - more * STRAIGHT_KEY;
+    let straight = wave - 1 + DIAGONAL_KEY * (near + more) - FEWER * rest;
+    straight * 65536 + diagonal
+}
+
+// The entries of one row.
+fn store_row(work: &[u32], width: usize, height: usize, table: &mut [u32], row: usize)
+    requires { ⌜ Storable width height (now work) ⌝ }
+    requires { ⌜ row < height ⌝ }
+    requires { ⌜ Stored width height (now work) (row * width) (now table) ⌝ }
+    ensures { λ r. ⌜ Stored width height (now (work .entry)) ((row + 1) * width) (now (table .exit)) ⌝ }
+{
+    let mut column: usize = 0;
+    while column < width {
+        table[row * width + column] = entry_of(work[(row + 1) * STRIDE + column + 1]);
+        column += 1;
+    }
+}
+
+// The table of a work array that the waves have left.
+pub fn store_table(work: &[u32], width: usize, height: usize, table: &mut [u32])
+    requires { ⌜ Storable width height (now work) ⌝ }
+    requires { ⌜ length (now table) ≡ height * width ⌝ }
+    ensures { λ r. ⌜ Stored width height (now (work .entry)) (height * width) (now (table .exit)) ⌝ }
+{
+    let mut row: usize = 0;
+    while row < height {
+        store_row(work, width, height, table, row);
+        row += 1;
+    }
+}
