@@ -171,11 +171,16 @@ void measure(Floor &floor, int rounds, int turns, int in_a_row) {
 
 }  // namespace
 
-// bench ROUNDS TURNS CALLS: so many calls in a row at each turn
+// bench ROUNDS TURNS CALLS GOALS: so many calls in a row at each turn, for so many of a floor's ten goals
 int main(int argc, char **argv) {
-    if (argc != 4) return 2;
+    if (argc != 5) return 2;
     const int rounds = std::atoi(argv[1]), calls = std::atoi(argv[3]), turns = std::atoi(argv[2]);
     std::printf("| floor | fill, µs | Boost, pairs / fill | Boost, packed / fill | fill / C++ by g++ | fill / C++ by clang++ | check, µs "
                 "| check / C++ by g++ | check / C++ by clang++ | fill / check |\n|---|---|---|---|---|---|---|---|---|---|\n");
-    for (Floor &floor : all_floors()) measure(floor, rounds, floor.cells() < 1000 ? 20 * turns : turns, calls);
+    const std::size_t goals = std::size_t(std::atoi(argv[4]));
+    if (goals < 1 || goals > 10) return 2;
+    for (Floor &floor : all_floors()) {
+        floor.goals.resize(goals);
+        measure(floor, rounds, floor.cells() < 1000 ? 20 * turns : turns, calls);
+    }
 }
