@@ -15,11 +15,17 @@ constexpr size_t STRIDE = 130;
 // The lesser of two numbers.
 inline u32 lesser(u32 a, u32 b) { return a < b ? a : b; }
 
-inline size_t offer(u32 *__restrict work, u32 *__restrict queue, size_t tail, size_t place, u32 number) {
-    const u32 before = work[place], after = lesser(number, before);
-    work[place] = after;
+// Lowers the number of a place, if this one is less, and puts the place behind the queue. Gives the number before.
+inline u32 lower(u32 *__restrict work, u32 *__restrict queue, size_t tail, size_t place, u32 number) {
+    const u32 before = work[place];
+    work[place] = lesser(number, before);
     queue[tail] = u32(place);
-    return tail + (before ^ after) / UNREACHED;
+    return before;
+}
+
+inline size_t offer(u32 *__restrict work, u32 *__restrict queue, size_t tail, size_t place, u32 number) {
+    const u32 before = lower(work, queue, tail, place, number);
+    return tail + (before ^ lesser(number, before)) / UNREACHED;
 }
 
 inline size_t place_of(size_t from, int heading) { return from + size_t(DOWN[heading] * int(STRIDE) + ACROSS[heading]); }
@@ -31,9 +37,8 @@ struct Side {
 };
 
 inline Side side_step(u32 *__restrict work, u32 *__restrict queue, size_t tail, size_t from, int heading, u32 number) {
-    const size_t place = place_of(from, heading);
-    const u32 mask = (work[place] - 1) / UNREACHED * UNREACHED;
-    return {offer(work, queue, tail, place, number % UNREACHED), mask};
+    const u32 before = lower(work, queue, tail, place_of(from, heading), number);
+    return {tail + before / UNREACHED, (before - 1) / UNREACHED * UNREACHED};
 }
 
 // All steps out of a cell.
@@ -50,24 +55,42 @@ inline size_t cell_steps(u32 *__restrict work, u32 *__restrict queue, size_t tai
     return tail;
 }
 
+// Brings the cells of queue[mid..tail] below the limit before those that wait. Gives where the first one that waits stands.
+inline size_t ready_first(const u32 *__restrict work, u32 *__restrict queue, size_t mid, size_t tail, u32 limit) {
+    size_t top = mid;
+    for (size_t i = mid; i < tail; i++) {
+        const u32 cell = queue[i];
+        queue[i] = queue[top];
+        queue[top] = cell;
+        top += work[cell] < limit;
+    }
+    return top;
+}
+
+inline size_t ready_steps(u32 *__restrict work, u32 *__restrict queue, size_t mid, size_t top, size_t tail) {
+    for (size_t i = mid; i < top; i++) tail = cell_steps(work, queue, tail, queue[i]);
+    return tail;
+}
+
+// A cell waits at most once: those of queue[mid..fresh] waited in the wave before, and are ready.
 void all_waves(u32 *__restrict work, u32 *__restrict queue, size_t goal) {
-    size_t mid = 0, tail = cell_steps(work, queue, 0, goal);
+    size_t mid = 0, fresh = 0, tail = cell_steps(work, queue, 0, goal);
     for (u32 limit = 3 * WIDE; mid < tail; limit += WIDE) {
-        size_t top = tail;
-        for (size_t i = tail; i-- > mid;) {
-            const size_t from = queue[i];
-            if (work[from] < limit)
-                tail = cell_steps(work, queue, tail, from);
-            else
-                queue[--top] = u32(from);
-        }
+        const size_t top = ready_first(work, queue, fresh, tail, limit);
+        fresh = tail;
+        tail = ready_steps(work, queue, mid, top, tail);
         mid = top;
     }
 }
 
+// The numbers of four cells, for each value of the four bits of their map.
+constexpr u32 U = UNREACHED;
+constexpr u32 FOURS[16][4] = {{U, U, U, U}, {0, U, U, U}, {U, 0, U, U}, {0, 0, U, U}, {U, U, 0, U}, {0, U, 0, U}, {U, 0, 0, U}, {0, 0, 0, U},
+                              {U, U, U, 0}, {0, U, U, 0}, {U, 0, U, 0}, {0, 0, U, 0}, {U, U, 0, 0}, {0, U, 0, 0}, {U, 0, 0, 0}, {0, 0, 0, 0}};
+
 // The first cells of one map byte, as many as count says.
 inline void load_byte(u32 *to, u8 byte, size_t count) {
-    for (size_t i = 0; i < count; i++) to[i] = ((255u - byte) >> i & 1) * UNREACHED;
+    for (size_t i = 0; i < count; i++) to[i] = FOURS[byte >> (i / 4 * 4) & 15][i % 4];
 }
 
 void load(u32 *__restrict work, const Floor &floor) {

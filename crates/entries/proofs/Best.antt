@@ -9,8 +9,8 @@ use native.Mathlib.Omega.{arith}
 use native.Mathlib.Decide.{ℕ-discrete}
 use Rattle.given.specs.Given.{pick}
 use Rattle.lengths.specs.declared.Length.{Length}
-use Rattle.lengths.specs.Order.{zeroLength, _⊕_, _⊑_, _⊏_, shorter}
-use Rattle.lengths.proofs.Order.{⊑-refl, ⊑-trans, ⊏-⊑, ⊑-antisym, shorter-yes, shorter-no}
+use Rattle.lengths.specs.Order.{zeroLength, _⊕_, _⊑_, shorter}
+use Rattle.lengths.proofs.Order.{_⊏_, ⊑-refl, ⊑-trans, ⊏-⊑, ⊑-antisym, shorter-yes, shorter-no}
 use Rattle.steps.specs.declared.Lead.{Lead}
 use Rattle.steps.specs.declared.Lead.the-variants.{To, Nowhere}
 use Rattle.steps.specs.Heading.{weight}

@@ -13,8 +13,8 @@ use borrow.Author.Tests.{eqb-true, lt-ltb, ltb-true}
 use Rattle.given.specs.Given.{pick}
 use Rattle.lengths.specs.Answers.{partAbove}
 use Rattle.lengths.specs.Inner.{Within}
-use Rattle.lengths.specs.Order.{_⊑_, _⊏_, shorter}
-use Rattle.lengths.proofs.Order.{⊏-⊑, shorter-yes, shorter-no}
+use Rattle.lengths.specs.Order.{_⊑_, shorter}
+use Rattle.lengths.proofs.Order.{_⊏_, ⊏-⊑, shorter-yes, shorter-no}
 use Rattle.lengths.proofs.Keys.{key, order-key}
 use Rattle.lengths.proofs.Tested.{small-parts, parts-small}
 use Rattle.calls.specs.CallTests.{Fitting}

@@ -9,8 +9,8 @@ use native.Mathlib.Omega.{arith}
 use native.Mathlib.Decide.{ℕ-discrete}
 use lib.Dec.{T}
 use Rattle.lengths.specs.declared.Length.{Length}
-use Rattle.lengths.specs.Order.{_⊑_, _⊏_, shorter}
-use Rattle.lengths.proofs.Order.{length-ext, ⊏-⊑, ⊑-refl, ⊏-not, ⊏-⊑-trans, ⊑-trans, shorter-yes, shorter-no, steps-bound}
+use Rattle.lengths.specs.Order.{_⊑_, shorter}
+use Rattle.lengths.proofs.Order.{_⊏_, length-ext, ⊏-⊑, ⊑-refl, ⊏-not, ⊏-⊑-trans, ⊑-trans, shorter-yes, shorter-no, steps-bound}
 
 -- all lengths with parts up to n
 abbrev row : ℕ → ℕ → List Length

@@ -10,8 +10,13 @@ use native.Mathlib.Omega.{arith}
 use mathlib.Core.Bool.{not}
 use lib.Dec.{T, ltb→lt, nltb→le}
 use Rattle.lengths.specs.declared.Length.{Length}
-use Rattle.lengths.specs.Order.{zeroLength, _⊕_, steps, over, _⊑_, _⊏_, shorter}
+use Rattle.lengths.specs.Order.{zeroLength, _⊕_, steps, over, _⊑_, shorter}
 
+-- a is shorter than b
+pub record _⊏_ (a b : Length) : Type 0 where
+  pub lt : over a b < over b a
+
+infix 50 _⊏_
 -- p is at most q√2; q√2 is at most p
 abbrev Under : ℕ → ℕ → Type 0
 Under p q = p * p ≤ 2 * (q * q)

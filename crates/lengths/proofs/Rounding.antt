@@ -7,9 +7,10 @@ use native.Mathlib.Nat.{mul-le-mul}
 use native.Mathlib.Decide.{decLe}
 use native.Mathlib.Omega.{arith}
 use Rattle.lengths.specs.declared.Length.{Length}
-use Rattle.lengths.specs.Order.{_⊕_, _⊏_, Rule, common, fewer-diagonal, fewer-straight}
+use Rattle.lengths.specs.Order.{_⊕_}
 use Rattle.lengths.specs.Distance.{Nearest, Spoken}
-use Rattle.lengths.proofs.Rule.{rule}
+use Rattle.lengths.proofs.Order.{_⊏_}
+use Rattle.lengths.proofs.Rule.{Rule, common, fewer-diagonal, fewer-straight, rule}
 
 pub no-tie : (m n : ℕ) → (2 * n + 1) * (2 * n + 1) ≢ 8 * (m * m)
 no-tie m n e = omega arith

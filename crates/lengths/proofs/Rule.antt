@@ -2,13 +2,23 @@
 -- Assumes nothing.
 use mathlib.Core.Path.{_≡_}
 use mathlib.Core.Logic.{_↔_}
-use Prim.Native.Nat.{_-_, _≤_}
+use Prim.Native.Nat.{_-_, _*_, _≤_, _<_}
 use native.Mathlib.Nat.{lt-of-not-le}
 use native.Mathlib.Decide.{decLe}
 use native.Mathlib.Omega.{arith}
 use Rattle.lengths.specs.declared.Length.{Length}
-use Rattle.lengths.specs.Order.{_⊏_, over, steps, Rule, common, fewer-diagonal, fewer-straight}
-use Rattle.lengths.proofs.Order.{sq-zero, both-less, not-⊏, ⊏-not, ⊑-antisym}
+use Rattle.lengths.specs.Order.{over, steps}
+use Rattle.lengths.proofs.Order.{_⊏_, sq-zero, both-less, not-⊏, ⊏-not, ⊑-antisym}
+
+-- document 01's rule for p + q√2 < 0, with p and q the differences of the parts: by the common sign, or by comparing p² with 2 × q².
+pub data Rule (a b : Length) : Type 0 where
+  common : a .straight ≤ b .straight → a .diagonal ≤ b .diagonal → steps a < steps b → Rule a b
+  fewer-diagonal :
+      b .straight ≤ a .straight → a .diagonal ≤ b .diagonal
+      → (a .straight - b .straight) * (a .straight - b .straight) < 2 * ((b .diagonal - a .diagonal) * (b .diagonal - a .diagonal)) → Rule a b
+  fewer-straight :
+      a .straight ≤ b .straight → b .diagonal ≤ a .diagonal
+      → 2 * ((a .diagonal - b .diagonal) * (a .diagonal - b .diagonal)) < (b .straight - a .straight) * (b .straight - a .straight) → Rule a b
 
 module _ (a b : Length) where
   to-rule : Dec (a .straight ≤ b .straight) → Dec (a .diagonal ≤ b .diagonal) → a ⊏ b → Rule a b

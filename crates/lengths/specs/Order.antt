@@ -1,7 +1,7 @@
 -- Document 01, "Lengths": a length is a pair, straight steps and diagonal steps. It stands for straight + diagonal × √2.
 -- Assumes nothing.
 use mathlib.Core.Bool.{Bool}
-use Prim.Native.Nat.{ℕ, _+_, _-_, _*_, _≤_, _<_}
+use Prim.Native.Nat.{ℕ, _+_, _-_, _*_, _≤_}
 use lib.Dec.{ltb}
 use Rattle.lengths.specs.declared.Length.{Length}
 
@@ -20,28 +20,12 @@ steps a = a .straight + a .diagonal
 unfoldable pub over : Length → Length → ℕ
 over a b = (a .straight - b .straight) * (a .straight - b .straight) + 2 * ((a .diagonal - b .diagonal) * (a .diagonal - b .diagonal))
 
--- a is not longer than b
+-- a is not longer than b. That this is document 01's rule for the sign of p + q√2 is proved in proofs/Rule
 pub record _⊑_ (a b : Length) : Type 0 where
   pub le : over a b ≤ over b a
 
--- a is shorter than b
-pub record _⊏_ (a b : Length) : Type 0 where
-  pub lt : over a b < over b a
-
 infixl 60 _⊕_
 infix 50 _⊑_
-infix 50 _⊏_
--- document 01's rule for p + q√2 < 0, with p and q the differences of the parts: by the common sign, or by comparing p² with 2 × q².
--- That it is the order above is proved in proofs/Rule
-pub data Rule (a b : Length) : Type 0 where
-  common : a .straight ≤ b .straight → a .diagonal ≤ b .diagonal → steps a < steps b → Rule a b
-  fewer-diagonal :
-      b .straight ≤ a .straight → a .diagonal ≤ b .diagonal
-      → (a .straight - b .straight) * (a .straight - b .straight) < 2 * ((b .diagonal - a .diagonal) * (b .diagonal - a .diagonal)) → Rule a b
-  fewer-straight :
-      a .straight ≤ b .straight → b .diagonal ≤ a .diagonal
-      → 2 * ((a .diagonal - b .diagonal) * (a .diagonal - b .diagonal)) < (b .straight - a .straight) * (b .straight - a .straight) → Rule a b
-
 -- shorter, as a test
 abbrev pub shorter : Length → Length → Bool
 shorter a b = ltb (over a b) (over b a)

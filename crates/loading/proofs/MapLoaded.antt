@@ -1,9 +1,9 @@
 -- The map's bytes in the work array: each cell's place has the number of its bit, and all places between and around the rows stay blocked.
 -- Assumes nothing.
-use mathlib.Core.Path.{_≡_, refl, ap, ap₂, sym, subst, subst₂, _∙_}
+use mathlib.Core.Path.{_≡_, refl, ap₂, sym, subst, subst₂, _∙_}
 use mathlib.Core.Bool.{Bool, true, false, not}
 use mathlib.Core.List.{List}
-use Prim.Native.Nat.{ℕ, zero, suc, _+_, _-_, _*_, _/_, _%_, _≤_, _<_, _^_}
+use Prim.Native.Nat.{ℕ, zero, suc, _+_, _-_, _*_, _/_, _%_, _≤_, _<_}
 use native.Mathlib.Omega.{arith}
 use native.Mathlib.Nat.{mul-le-mul-right}
 use native.Mathlib.Decide.{decLe, ℕ-discrete}
@@ -13,7 +13,6 @@ use borrow.Author.Tests.{lt-ltb, le-ltb}
 use Rattle.floor.specs.Floor.{Map, bytesPerRow, bit, blocked, open?, both}
 use Rattle.steps.specs.Leading.{openPast}
 use Rattle.floor.specs.Inner.{Sound}
-use Rattle.steps.proofs.Grid.{eight}
 use Rattle.offers.specs.Work.{unreached, stride, at, spot}
 use Rattle.loading.specs.Load.{numberOf, loaded, Run, Prefix, Cleared, Tall}
 use Rattle.offers.proofs.Changed.{each, waiting-set, waiting-none}
@@ -22,12 +21,6 @@ use Rattle.loading.proofs.Kept.{CellsLoaded, BitsLoaded, RowsLoaded}
 -- the bit of the cell in column c and row r
 abbrev bitAt : Map → (c r : ℕ) → ℕ
 bitAt m c r = bit (c % 8) (getD (m .bytes) (r * bytesPerRow (m .width) + c / 8) 0)
-
--- a bit of a byte's complement is 1 minus the byte's bit
-pub complement-bit : (b : ℕ) → b < 256 → (k : ℕ) → k < 8 → (255 - b) / 2 ^ k % 2 ≡ 1 - bit k b
-complement-bit b h =
-    eight (λ k. (255 - b) / 2 ^ k % 2 ≡ 1 - bit k b) (omega arith) (omega arith) (omega arith) (omega arith) (omega arith) (omega arith)
-    (omega arith) (omega arith)
 
 number-bit : (b : ℕ) → b < 2 → numberOf (not (eqb b 1)) ≡ (1 - b) * unreached
 number-bit zero h = refl
@@ -142,21 +135,20 @@ module _ (m : Map) (s : Sound m) where
   }
 
   pub bits-more :
-      (x₀ : List ℕ) (c r count i v n : ℕ) (x : List ℕ) → Run m r c count → BitsLoaded m x₀ c r count i x → i < count
-      → v ≡ 1 - bit i (getD (m .bytes) (r * bytesPerRow (m .width) + c / 8) 0) → n ≡ v * unreached
+      (x₀ : List ℕ) (c r count i n : ℕ) (x : List ℕ) → Run m r c count → BitsLoaded m x₀ c r count i x → i < count
+      → n ≡ (1 - bit i (getD (m .bytes) (r * bytesPerRow (m .width) + c / 8) 0)) * unreached
       → BitsLoaded m x₀ c r count (i + 1) (set x ((r + 1) * stride + c + 1 + i) n)
-  bits-more x₀ c r count i v n x u b less e f =
+  bits-more x₀ c r count i n x u b less e =
       let place : spot (c + i) r ≡ (r + 1) * stride + c + 1 + i = omega arith in
       let next : c + i + 1 ≡ c + (i + 1) = omega arith in
-      let remainder : (c + i) % 8 ≡ i = omega (arith, u .aligned, u .few) in
-      let quotient : (c + i) / 8 ≡ c / 8 = omega (arith, u .aligned, u .few) in
-      let same : 1 - bitAt m (c + i) r ≡ v
-      = ap₂ (λ (j k : ℕ). 1 - bit j (getD (m .bytes) (r * bytesPerRow (m .width) + k) 0)) remainder quotient ∙ sym e in
+      let remainder : i ≡ (c + i) % 8 = omega (arith, u .aligned, u .few) in
+      let quotient : c / 8 ≡ (c + i) / 8 = omega (arith, u .aligned, u .few) in
+      let same = ap₂ (λ (j k : ℕ). (1 - bit j (getD (m .bytes) (r * bytesPerRow (m .width) + k) 0)) * unreached) remainder quotient in
       record {
         few = omega arith;
         cells =
             subst₂ (λ (j k : ℕ). CellsLoaded m x₀ k r (set x j n)) place next
-            (cells-more x₀ (c + i) r n x (u .row) (b .cells) (omega (arith, u .inside)) (f ∙ ap (λ (k : ℕ). k * unreached) (sym same)));
+            (cells-more x₀ (c + i) r n x (u .row) (b .cells) (omega (arith, u .inside)) (e ∙ same));
       }
 
 -- none of a byte's cells, and all of them

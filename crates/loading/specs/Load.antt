@@ -2,10 +2,10 @@
 -- Assumes nothing.
 use mathlib.Core.Path.{_≡_}
 use mathlib.Core.Bool.{Bool, true, false}
-use mathlib.Core.List.{List}
-use Prim.Native.Nat.{ℕ, _+_, _*_, _/_, _%_, _≤_, _<_}
-use lib.ListN.{length}
-use Rattle.floor.specs.Floor.{Map}
+use mathlib.Core.List.{List, []}
+use Prim.Native.Nat.{ℕ, _+_, _-_, _*_, _/_, _%_, _≤_, _<_}
+use lib.ListN.{getD, length}
+use Rattle.floor.specs.Floor.{Map, bit}
 use Rattle.steps.specs.Leading.{openPast}
 use Rattle.floor.specs.Inner.{Sound}
 use Rattle.offers.specs.Work.{unreached, stride, at, spot, waiting}
@@ -18,6 +18,10 @@ numberOf false = 0
 -- what stands at a place of the work array when the map is loaded
 unfoldable pub loaded : Map → ℕ → ℕ
 loaded m z = numberOf (openPast m (z % stride) (z / stride))
+
+-- a table of the numbers of four cells, by the four bits q of their map
+pub record Fours (t : List (List ℕ)) : Type 0 where
+  pub entry : (q k : ℕ) → q < 16 → k < 4 → at (getD t q []) k ≡ (1 - bit k q) * unreached
 
 -- cells of one byte of an accepted floor's map: count of them, from column c of row r on
 pub record Run (m : Map) (r c count : ℕ) : Type 0 where

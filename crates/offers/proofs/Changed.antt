@@ -3,13 +3,13 @@
 use mathlib.Core.Path.{_≡_, refl, ap, sym, subst, _∙_}
 use mathlib.Core.Logic.{_≢_}
 use mathlib.Core.List.{List, [], _∷_}
-use Prim.Native.Nat.{ℕ, zero, suc, _+_, _-_, _/_, _≤_, _<_}
+use Prim.Native.Nat.{ℕ, zero, suc, _+_, _-_, _/_, min, _≤_, _<_}
 use native.Mathlib.Omega.{arith}
 use native.Mathlib.Decide.{decLe, ℕ-discrete}
 use lib.ListN.{length, set, length-set, List·getD-eq-default}
 use lib.Seq.{getD-set-same, getD-set-other, set-out}
 use Rattle.offers.specs.Work.{unreached, at, waiting, Room}
-use Rattle.offers.specs.Taken.{OfferMade}
+use Rattle.offers.specs.Taken.{Lowered, OfferMade}
 
 -- a fact of every place, if it holds of the changed one and of the others as they were
 pub each :
@@ -53,6 +53,18 @@ room-offer x q t a b le r = record {
         let k : length x ≤ a = omega arith in
         let e : at x a ≡ 0 = List·getD-eq-default x 0 k in
         omega (arith, length-set q t a, r .enough, ap waiting (set-out x a b k))
+
+-- a place that was lowered was offered the number, if the queue's end moves on where the cell was not reached and now is
+pub lowered-made : (a c t : ℕ) (x q x′ q′ : List ℕ) (v t′ : ℕ) → Room x q t → Lowered a c t x q x′ q′ v
+    → t′ ≡ t + (v / unreached - min c v / unreached) → OfferMade a c t x q x′ q′ t′
+lowered-made a c t x q x′ q′ v t′ r l e =
+    let end = e ∙ ap (λ (k : ℕ). t + (k / unreached - min c k / unreached)) (l .before) in
+    record {
+      cells = l .cells;
+      queue = l .queue;
+      end = end;
+      room = rw (l .cells, l .queue, end) (room-offer x q t a (min c (at x a)) (omega arith) r);
+    }
 
 -- an offer leaves the array as large as it was
 pub made-size : (a c t : ℕ) (x q x′ q′ : List ℕ) (t′ : ℕ) → OfferMade a c t x q x′ q′ t′ → length x′ ≡ length x

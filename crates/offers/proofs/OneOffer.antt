@@ -19,7 +19,7 @@ front : (q : List ℕ) (t a i : ℕ) → i < t → getD (set q t a) i 0 ≡ getD
 front q t a i h = getD-set-other q t i a 0 (omega arith)
 
 -- a store in the queue, but not among the next wave's cells
-pub aside : (w : Wave) (x q : List ℕ) (t j v : ℕ) → Going w x q t → ((i : ℕ) → w .end ≤ i → i < t → i ≢ j) → Going w x (set q j v) t
+aside : (w : Wave) (x q : List ℕ) (t j v : ℕ) → Going w x q t → ((i : ℕ) → w .end ≤ i → i < t → i ≢ j) → Going w x (set q j v) t
 aside w x q t j v g apart = record {
   border = g .border;
   cells = g .cells;

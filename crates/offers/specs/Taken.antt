@@ -8,6 +8,12 @@ use lib.ListN.{length, set}
 use Rattle.offers.specs.Work.{unreached, span, stepped, highest, at, target, WorkStep, Room}
 use Rattle.offers.specs.Wave.{Wave, Going, Falls}
 
+-- place a, which had the number v, has c if that is less, and stands behind the queue
+pub record Lowered (a c t : ℕ) (x q x′ q′ : List ℕ) (v : ℕ) : Type 0 where
+  pub cells : x′ ≡ set x a (min c (at x a))
+  pub queue : q′ ≡ set q t a
+  pub before : v ≡ at x a
+
 -- place a was offered the number c: it has the lesser one now, and stands behind the queue if it waited
 pub record OfferMade (a c t : ℕ) (x q x′ q′ : List ℕ) (t′ : ℕ) : Type 0 where
   pub cells : x′ ≡ set x a (min c (at x a))

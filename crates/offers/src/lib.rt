@@ -8,7 +8,7 @@ ghost use mathlib.Core.Path.{_≡_};
 ghost use Prim.Native.Nat.{_+_, _-_, _/_, _<_, _≤_, min};
 ghost use lib.ListN.{length};
 ghost use Rattle.offers.specs.Work.{unreached, stride, largest, highest, stepped, at, Inside, target, Room};
-ghost use Rattle.offers.specs.Taken.{OfferMade, MaskRead, SideStep, SideAfter, Past, TakenLeft};
+ghost use Rattle.offers.specs.Taken.{Lowered, OfferMade, MaskRead, SideStep, SideAfter, Past, TakenLeft};
 
 // The number of an open cell that is not reached.
 pub const UNREACHED: u32 = 2147483648;
@@ -42,17 +42,27 @@ fn newly(before: u32, after: u32) -> usize
     ((before ^ after) / UNREACHED) as usize
 }
 
+// Lowers the number of a place, if this one is less, and puts the place behind the queue, where it stays if the tail moves on. Gives the number
+// before.
+fn lower(work: &mut [u32], queue: &mut [u32], tail: usize, place: usize, number: u32) -> u32
+    requires { ⌜ place < length (now work) ⌝ }
+    requires { ⌜ Room (now work) (now queue) tail ⌝ }
+    ensures { λ r. ⌜ Lowered place number tail (now (work .entry)) (now (queue .entry)) (now (work .exit)) (now (queue .exit)) r ⌝ }
+{
+    let before = work[place];
+    work[place] = lesser(number, before);
+    queue[tail] = place as u32;
+    before
+}
+
 // Offers a place a number; a cell that was not reached is put behind the queue.
 fn offer(work: &mut [u32], queue: &mut [u32], tail: usize, place: usize, number: u32) -> usize
     requires { ⌜ place < length (now work) ⌝ }
     requires { ⌜ Room (now work) (now queue) tail ⌝ }
     ensures { λ r. ⌜ OfferMade place number tail (now (work .entry)) (now (queue .entry)) (now (work .exit)) (now (queue .exit)) r ⌝ }
 {
-    let before = work[place];
-    let after = lesser(number, before);
-    work[place] = after;
-    queue[tail] = place as u32;
-    tail + newly(before, after)
+    let before = lower(work, queue, tail, place, number);
+    tail + newly(before, lesser(number, before))
 }
 
 // Where a heading leads from a place.
@@ -78,7 +88,8 @@ struct Side {
     mask: u32,
 }
 
-// A straight step. A blocked cell stays blocked and an open one open, so that its mask is read once, for the diagonal steps on both sides of it.
+// A straight step. Its number always counts, so a cell that was not reached now is. A blocked cell stays blocked and an open one open, so that
+// its mask is read once, for the diagonal steps on both sides of it.
 fn side_step(
     work: &mut [u32],
     queue: &mut [u32],
@@ -93,12 +104,10 @@ fn side_step(
     ensures { λ r. ⌜ SideStep from heading number tail (now (work .entry)) (now (queue .entry)) (now (work .exit)) (now (queue .exit)) (r .tail) (r .mask) ⌝ }
 {
     let place = place_of(from, heading);
-    let mask = mask_of(work[place]);
-    // the remainder is the number itself: it tells the compiler that a straight step's number always counts
-    let end = offer(work, queue, tail, place, number % UNREACHED);
+    let before = lower(work, queue, tail, place, number);
     Side {
-        tail: end,
-        mask: mask,
+        tail: tail + (before / UNREACHED) as usize,
+        mask: mask_of(before),
     }
 }
 

@@ -97,13 +97,15 @@ module _ (x q : List ℕ) (goal : ℕ) (l : Loaded x q goal) where
         let v = ap (stepped h) (l .start) in
         omega (arith, o .done h b (s .heading) (subst (λ (z : ℕ). WorkStep x h z b) e s))
 
-    pub begin : Between x goal 0 t (3 * span) x′ q′
+    pub begin : Between x goal 0 0 t (3 * span) x′ q′
     begin = record {
       going = onward x goal x 0 (2 * span) x′ q′ t (o .going) relaxed;
-      order = omega arith;
+      order = (omega arith, omega arith);
+      below = λ z f. omega (arith, o .going .below z f);
       support = supported x goal x 0 (2 * span) x′ q′ t (o .going);
       due = λ i m n. next-due x goal x 0 (2 * span) x′ q′ t (o .going) _ (omega arith) (o .going .queued i m n);
       in-due = λ z k. other z (omega (arith, k .after)) (k .reached .found);
+      waited = λ i m n. absurd (omega arith);
       start = omega arith;
       count = omega arith;
     }

@@ -4,29 +4,34 @@ use mathlib.Core.Path.{_≡_}
 use mathlib.Core.Logic.{_⊎_}
 use mathlib.Core.List.{List}
 use Prim.Native.Nat.{ℕ, _+_, _-_, _*_, _≤_, _<_}
+use native.Mathlib.Omega.{arith}
 use lib.ListN.{getD}
-use Rattle.offers.specs.Work.{span, at}
+use Rattle.offers.specs.Work.{unreached, span, at}
 use Rattle.offers.specs.Wave.{Wave, Support, Listed, Reached, Going}
-use Rattle.passes.specs.Pass.{Due, PassReady, PassDone}
+use Rattle.passes.specs.Pass.{Due}
 
--- the cells from i on have taken their steps, or wait from top on
-pub record Passed (mid t limit : ℕ) (x₀ q₀ : List ℕ) (i top : ℕ) (x q : List ℕ) (t′ : ℕ) : Type 0 where
-  pub order : (mid ≤ i) × (i ≤ top) × (top ≤ t)
-  pub keeps : (w : Wave) → w .limit ≡ limit → PassReady w x₀ q₀ mid t → PassDone w i top x₀ q₀ x q t′
+-- a larger part of the queue
+pub wider : (q : List ℕ) (low high low′ high′ z : ℕ) → low′ ≤ low → high ≤ high′ → Listed q low high z → Listed q low′ high′ z
+wider q low high low′ high′ z m n l =
+    record { index = l .index; here = l .here; after = omega (arith, l .after); before = omega (arith, l .before) }
 
 -- a wave of this floor and goal that begins now
 abbrev pub the : List ℕ → ℕ → List ℕ → (end limit : ℕ) → Wave
 the floor goal x end limit = record { floor = floor; goal = goal; before = x; end = end; limit = limit }
 
 -- between waves: the next one ends at limit
-pub record Between (floor : List ℕ) (goal mid tail limit : ℕ) (x q : List ℕ) : Type 0 where
+pub record Between (floor : List ℕ) (goal mid fresh tail limit : ℕ) (x q : List ℕ) : Type 0 where
   pub going : Going (the floor goal x tail limit) x q tail
-  pub order : mid ≤ tail
+  pub order : (mid ≤ fresh) × (fresh ≤ tail)
+  -- everything reached lies below the end of the wave after this one
+  pub below : (z : ℕ) → at x z < unreached → at x z < limit + span
   -- every reached cell but the goal was reached by a step out of a cell before this wave
   pub support : (z : ℕ) → Reached x z → (z ≡ goal) ⊎ Support (the floor goal x tail (limit - span)) x z (at x z)
   -- q[mid..tail] are the cells that have not taken their steps, and they alone
   pub due : (i : ℕ) → mid ≤ i → i < tail → Due x limit (getD q i 0)
   pub in-due : (z : ℕ) → Due x limit z → Listed q mid tail z
+  -- and of those q[mid..fresh], which waited in the wave before, do not wait again
+  pub waited : (i : ℕ) → mid ≤ i → i < fresh → at x (getD q i 0) < limit
   -- the goal lies before the wave's end
   pub start : span < limit
   -- no wave was empty

@@ -11,7 +11,7 @@ use Rattle.offers.specs.Wave.{Support}
 use Rattle.passes.specs.Solved.{Found, Solved}
 use Rattle.passes.proofs.Kept.{the, Between}
 
-module _ (floor : List ℕ) (goal mid tail limit : ℕ) (x q : List ℕ) (g : Between floor goal mid tail limit x q) (empty : tail ≤ mid) where
+module _ (floor : List ℕ) (goal mid fresh tail limit : ℕ) (x q : List ℕ) (g : Between floor goal mid fresh tail limit x q) (empty : tail ≤ mid) where
   -- all that was reached lies before the wave
   low : (z : ℕ) → 0 < at x z → at x z < unreached → at x z + span < limit
   low z o f = by (decLe limit (at x z + span))

@@ -1,4 +1,5 @@
 pub mod Kept
+pub mod Parting
 pub mod OnePass
 pub mod Onward
 pub mod FirstWave

@@ -5,7 +5,9 @@
 --    offer lies in the next wave or in the one after that, whatever the order of the steps.
 -- 3. So the settled cells stay, and afterwards no step out of a cell below `limit` would lower a cell: the limit can rise by a straight step.
 -- 4. The cells that have not taken their steps are those that waited in this wave, and those that it reached.
--- 5. No wave is empty, so there are no more waves than cells, which bounds every number (`count`).
+-- 5. What waited in this wave was reached before it, by a step out of a cell before the wave, and so lies less than one wave past its end. It does
+--    not wait in the next one.
+-- 6. No wave is empty, so there are no more waves than cells, which bounds every number (`count`).
 -- Assumes nothing.
 use mathlib.Core.Path.{_≡_, refl, ap, sym, subst, _∙_}
 use mathlib.Core.List.{List}
@@ -16,39 +18,38 @@ use lib.ListN.{getD}
 use Rattle.offers.specs.Work.{unreached, span, stepped, at, WorkStep}
 use Rattle.offers.specs.Wave.{Wave, Listed, Reached}
 use Rattle.passes.specs.Pass.{Due, PassReady, PassDone, PassLeft}
-use Rattle.passes.proofs.Kept.{the, Between}
-use Rattle.passes.proofs.OnePass.{settled}
+use Rattle.passes.proofs.Kept.{wider, the, Between}
 use Rattle.passes.proofs.Onward.{supported, next-due, onward}
 use Rattle.passes.proofs.SomeCell.{small, some-cell}
 
--- a larger part of the queue
-wider : (q : List ℕ) (low high low′ high′ z : ℕ) → low′ ≤ low → high ≤ high′ → Listed q low high z → Listed q low′ high′ z
-wider q low high low′ high′ z m n l =
-    record { index = l .index; here = l .here; after = omega (arith, l .after); before = omega (arith, l .before) }
-
-module _ (floor : List ℕ) (goal mid tail limit : ℕ) (x q : List ℕ) (g : Between floor goal mid tail limit x q) (more : mid < tail) where
+module _ (floor : List ℕ) (goal mid fresh tail limit : ℕ) (x q : List ℕ) (g : Between floor goal mid fresh tail limit x q) (more : mid < tail) where
   abbrev w : Wave
   w = the floor goal x tail limit
 
-  pub pass-ready : PassReady (the floor goal x tail limit) x q mid tail
+  pub pass-ready : PassReady (the floor goal x tail limit) x q mid fresh tail
   pass-ready = record {
     going = g .going;
-    small = small floor goal mid tail limit x q g more;
+    small = small floor goal mid fresh tail limit x q g more;
     begins = (refl, refl);
     order = g .order;
     cells = g .due;
+    waited = g .waited;
   }
 
-  module _ (x′ q′ : List ℕ) (top t : ℕ) (l : PassLeft mid tail limit x q x′ q′ top t) where
+  module _ (x′ q′ : List ℕ) (top t : ℕ) (l : PassLeft mid fresh tail limit x q x′ q′ top t) where
     d : PassDone (the floor goal x tail limit) mid top x q x′ q′ t
     d = l .keeps w refl pass-ready
 
     pub grows : mid < top
-    grows = let c = some-cell floor goal mid tail limit x q g more in d .fewer (c .index) (c .after) (c .before) (c .near)
+    grows = let c = some-cell floor goal mid fresh tail limit x q g more in d .fewer (c .index) (c .after) (c .before) (c .near)
 
     -- what is below the wave's end was so when the wave began
     was : (z : ℕ) → at x′ z < limit → at x z ≡ at x′ z
-    was = settled w mid top x q x′ q′ t d
+    was z m = by (decLe limit (at x z))
+      where
+        by : Dec (limit ≤ at x z) → at x z ≡ at x′ z
+        by (yes n) = absurd (omega (arith, d .high z n))
+        by (no n) = sym (d .keep z (omega arith))
 
     -- no step out of a cell below the wave's end would lower a cell
     now-relaxed : (h a b : ℕ) → WorkStep floor h a b → at x′ a < limit → at x′ b ≤ stepped h (at x′ a)
@@ -88,7 +89,7 @@ module _ (floor : List ℕ) (goal mid tail limit : ℕ) (x q : List ℕ) (g : Be
     now-listed z k = by (ℕ-discrete (at x z) unreached)
       where
         by : Dec (at x z ≡ unreached) → Listed q′ top t z
-        by (yes e) = wider q′ tail t top t z (l .order .1) (omega arith) (d .going .listed z e (k .reached .found))
+        by (yes e) = wider q′ tail t top t z (l .order) (omega arith) (d .going .listed z e (k .reached .found))
         by (no e) =
             let low = d .low z in
             let reached : Reached x z = record { free = omega (arith, k .reached .free); found = omega (arith, g .going .kinds z) } in
@@ -97,13 +98,19 @@ module _ (floor : List ℕ) (goal mid tail limit : ℕ) (x q : List ℕ) (g : Be
             let j = d .listed (i .index) (i .after) (i .before) (omega (arith, k .after)) in
             wider q′ top tail top t z (omega arith) (d .going .order) (subst (Listed q′ top tail) (i .here) j)
 
-    pub next : Between floor goal top t (limit + span) x′ q′
+    -- what waited lies below the next wave's end
+    now-ready : (i : ℕ) → top ≤ i → i < tail → at x′ (getD q′ i 0) < limit + span
+    now-ready i m n = let z = getD q′ i 0 in omega (arith, d .low z, g .below z (d .waits i m n .0 .found))
+
+    pub next : Between floor goal top tail t (limit + span) x′ q′
     next = record {
       going = onward floor goal x tail limit x′ q′ t (d .going) now-relaxed;
-      order = omega (arith, l .order, d .going .order);
+      order = (l .order, d .going .order);
+      below = λ z f. omega (arith, d .going .below z f);
       support = supported floor goal x tail limit x′ q′ t (d .going);
       due = now-due;
       in-due = now-listed;
+      waited = now-ready;
       start = omega (arith, g .start);
       count = omega (arith, g .count, grows);
     }

@@ -1,205 +1,196 @@
--- One pass over the cells of a wave, from the last one down: a cell below the wave's end takes its steps, and any other waits, moved to the end
--- of their part of the queue.
+-- One pass over the cells of a wave: once the fresh ones are parted, the ready ones, with those that waited in the wave before, take their steps
+-- one by one, and the others wait.
 -- Assumes nothing.
 use mathlib.Core.Path.{_≡_, refl, ap, sym, subst, _∙_}
-use mathlib.Core.Logic.{_≢_}
 use mathlib.Core.List.{List}
-use Prim.Native.Nat.{ℕ, _-_, _≤_, _<_}
+use Prim.Native.Nat.{ℕ, _+_, _≤_, _<_}
 use native.Mathlib.Omega.{arith}
 use native.Mathlib.Decide.{decLe, ℕ-discrete}
-use lib.ListN.{getD, length, set}
-use lib.Seq.{getD-set-same, getD-set-other}
+use lib.ListN.{getD, length}
 use Rattle.offers.specs.Work.{highest, stepped, at, Inside, WorkStep, Room}
-use Rattle.offers.specs.Wave.{Wave, Listed, Reached}
-use Rattle.offers.specs.Taken.{Offered, TakenLeft}
-use Rattle.passes.specs.Pass.{Due, PassReady, PassDone, PassLeft}
-use Rattle.offers.proofs.OneOffer.{aside}
+use Rattle.offers.specs.Wave.{Wave, Listed, Reached, Going}
+use Rattle.offers.specs.Taken.{Offered, This, TakenLeft}
+use Rattle.passes.specs.Pass.{Due, Places, Parted, StepsReady, StepsBegun, StepsDone, StepsLeft, PassReady, PassBegun, PassDone, PassLeft}
 use Rattle.offers.proofs.OneStep.{open-floor}
-use Rattle.passes.proofs.Kept.{Passed}
+use Rattle.passes.proofs.Parting.{parted-before}
 
--- the cell at q[i] can be read, and stepped out of if it is below the wave's end; else it can be moved to q[top]
-pub record Safe (limit : ℕ) (x q : List ℕ) (i top t : ℕ) : Type 0 where
+-- the cell at q[i] can be read and stepped out of
+pub record CanStep (x q : List ℕ) (i t : ℕ) : Type 0 where
   pub index : i < length q
-  pub place : top < length q
   pub inside : Inside x (getD q i 0)
-  pub small : limit ≤ highest
+  pub low : at x (getD q i 0) < highest
   pub room : Room x q t
 
--- what is below the wave's end was so when the wave began
-pub settled : (w : Wave) (i top : ℕ) (x q x′ q′ : List ℕ) (t : ℕ) → PassDone w i top x q x′ q′ t → (z : ℕ) → at x′ z < w .limit → at x z ≡ at x′ z
-settled w i top x q x′ q′ t p z b = by (decLe (w .limit) (at x z))
-  where
-    by : Dec (w .limit ≤ at x z) → at x z ≡ at x′ z
-    by (yes m) = absurd (omega (arith, p .high z m))
-    by (no m) = sym (p .keep z (omega arith))
+-- an open cell is not on the border
+inside : (w : Wave) (x q : List ℕ) (t : ℕ) → Going w x q t → (z : ℕ) → 0 < at x z → Inside x z
+inside w x q t g z o =
+    let a = g .border z (open-floor g z o) in
+    record { low = a .low; high = omega (arith, a .high, g .cells) }
 
-pub passed-none : (mid t limit : ℕ) (x q : List ℕ) → mid ≤ t → Passed mid t limit x q t t x q t
-passed-none mid t limit x q le = record {
-  order = (le, omega arith, omega arith);
-  keeps = λ w e r. let end = r .begins .1 in
-      record {
-        going = r .going;
-        low = λ z. omega arith;
-        keep = λ z m. refl;
-        high = λ z m. m;
-        rest = λ k m. refl;
-        done = λ k h b m n u s. absurd (omega arith);
-        waits = λ k m n. absurd (omega arith);
-        listed = λ k m n u. absurd (omega arith);
-        fewer = λ k m n u. absurd (omega arith);
-      };
+pub steps-none : (w : Wave) (mid top t : ℕ) (x q : List ℕ) → StepsReady w x q mid top t → StepsDone w mid mid x q x q t
+steps-none w mid top t x q r = record {
+  going = r .going;
+  falls = record { low = λ z. omega arith; keep = λ z m. refl; high = λ z m. m; queue = λ k m. refl };
+  done = λ k h b m n s. absurd (omega arith);
 }
 
-module _ (mid t limit : ℕ) (x₀ q₀ : List ℕ) (i top : ℕ) (x q : List ℕ) (t′ : ℕ) (s : Passed mid t limit x₀ q₀ i top x q t′) (b : mid < i) where
-  abbrev j : ℕ
-  j = i - 1
-
+module _ (w : Wave) (mid top t : ℕ) (x₀ q₀ : List ℕ) (r : StepsReady w x₀ q₀ mid top t) (i : ℕ) (x q : List ℕ) (t′ : ℕ)
+    (d : StepsDone w mid i x₀ q₀ x q t′) (m : mid ≤ i) (n : i < top) where
   abbrev c : ℕ
-  c = getD q j 0
+  c = getD q i 0
 
-  -- z was reached when the wave began, and was not below the wave's end
-  abbrev Waits : Wave → ℕ → Type 0
-  Waits w z = Reached x₀ z × (w .limit ≤ at x₀ z)
+  same : c ≡ getD q₀ i 0
+  same = d .falls .queue i (omega (arith, r .order, r .begins))
 
-  module _ (w : Wave) (e : w .limit ≡ limit) (r : PassReady w x₀ q₀ mid t) where
-    old : PassDone w i top x₀ q₀ x q t′
-    old = s .keeps w e r
+  -- the wave's cells are as they were when it began
+  value : at x c ≡ at x₀ c
+  value = d .falls .keep c (subst (λ (z : ℕ). at x₀ z < w .limit) (sym same) (r .cells i m n .near))
 
-    same : c ≡ getD q₀ j 0
-    same = old .rest j (omega arith)
+  this : This x (w .limit) c
+  this =
+      let o : This x₀ (w .limit) c = subst (This x₀ (w .limit)) (sym same) (r .cells i m n) in
+      record { free = omega (arith, value, o .free); after = omega (arith, value, o .after); near = omega (arith, value, o .near) }
 
-    here : (y : ℕ) → y ≡ j → getD q₀ y 0 ≡ c
-    here y f = ap (λ (z : ℕ). getD q₀ z 0) f ∙ sym same
+  pub step-safe : CanStep x q i t′
+  step-safe = record {
+    index = omega (arith, r .order, r .begins, d .going .order, d .going .room);
+    inside = inside w x q t′ (d .going) c (this .free);
+    low = omega (arith, this .near, r .small);
+    room = d .going .room;
+  }
 
-    due : Due x₀ (w .limit) c
-    due = subst (Due x₀ (w .limit)) (sym same) (r .cells j (omega arith) (omega (arith, s .order)))
+  pub steps-more : (x′ q′ : List ℕ) (t″ : ℕ) → TakenLeft (getD q i 0) t′ x q x′ q′ t″ → StepsDone w mid (i + 1) x₀ q₀ x′ q′ t″
+  steps-more x′ q′ t″ l = record {
+    going = k .going;
+    falls = record {
+      low = λ z. omega (arith, d .falls .low z, k .falls .low z);
+      keep = λ z u. k .falls .keep z (omega (arith, d .falls .keep z u)) ∙ d .falls .keep z u;
+      high = λ z u. k .falls .high z (d .falls .high z u);
+      queue = λ y u. k .falls .queue y u ∙ d .falls .queue y u;
+    };
+    done = λ y h b u v s. done y h b u v s (ℕ-discrete y i);
+  }
+    where
+      k : Offered w (λ h. h < 8) c x q x′ q′ t″
+      k = l .keeps w (d .going) (r .small) this
 
-    pub pass-safe : Safe limit x q (i - 1) (top - 1) t′
-    pass-safe =
-        let a = r .going .border c (open-floor (r .going) c (due .reached .free)) in
-        let end : t < length q = omega (arith, r .begins .1, old .going .order, old .going .room) in
-        record {
-          index = omega (arith, s .order);
-          place = omega (arith, s .order);
-          inside = record { low = a .low; high = omega (arith, a .high, old .going .cells) };
-          small = omega (arith, r .small);
-          room = old .going .room;
-        }
+      done : (y h b : ℕ) → mid ≤ y → y < i + 1 → WorkStep (w .floor) h (getD q₀ y 0) b → Dec (y ≡ i) → at x′ b ≤ stepped h (at x₀ (getD q₀ y 0))
+      done y h b u v s (no e) = omega (arith, d .done y h b u (omega arith) s, k .falls .low b)
+      done y h b u v s (yes e) =
+          let g : getD q₀ y 0 ≡ c = ap (λ (z : ℕ). getD q₀ z 0) e ∙ sym same in
+          let a : stepped h (at x₀ (getD q₀ y 0)) ≡ stepped h (at x c) = ap (λ (z : ℕ). stepped h (at x₀ z)) g ∙ ap (stepped h) (sym value) in
+          omega (arith, k .done h b (s .heading) (subst (λ (z : ℕ). WorkStep (w .floor) h z b) g s))
 
-  module _ (below : at x (getD q (i - 1) 0) < limit) (x′ q′ : List ℕ) (t″ : ℕ) (l : TakenLeft (getD q (i - 1) 0) t′ x q x′ q′ t″) where
-    more : (w : Wave) → w .limit ≡ limit → PassReady w x₀ q₀ mid t → PassDone w (i - 1) top x₀ q₀ x′ q′ t″
-    more w e r = record {
-      going = k .going;
-      low = λ z. omega (arith, n .low z, k .falls .low z);
-      keep = λ z m. k .falls .keep z (omega (arith, n .keep z m)) ∙ n .keep z m;
-      high = λ z m. k .falls .high z (n .high z m);
-      rest = λ y m. stay y (omega (arith, s .order, r .begins .1)) ∙ n .rest y (omega arith);
-      done = λ y h d m o u v. done y h d m o u v (ℕ-discrete y j);
-      waits = λ y m o. subst (Waits w) (sym (stay y o)) (n .waits y m o);
-      listed = λ y m o u. listed y m o u (ℕ-discrete y j);
-      fewer = λ y m o u. omega (arith, s .order);
+-- the last one did
+pub steps-all : (w : Wave) (mid top i : ℕ) (x q x′ q′ : List ℕ) (t′ : ℕ) → StepsDone w mid i x q x′ q′ t′ → top ≤ i → StepsDone w mid top x q x′ q′ t′
+steps-all w mid top i x q x′ q′ t′ d e = record { going = d .going; falls = d .falls; done = λ k h b m n s. d .done k h b m (omega arith) s }
+
+module _ (w : Wave) (x q : List ℕ) (mid fresh t : ℕ) (r : PassReady w x q mid fresh t) where
+  pub places : Places x q fresh t
+  places = record {
+    few = r .going .room .few;
+    narrow = r .going .room .narrow;
+    order = r .order .1;
+    fits = omega (arith, r .going .room);
+    cells = λ k m n. omega (arith, inside w x q t (r .going) (getD q k 0) (r .cells k (omega (arith, r .order)) n .reached .free) .high);
+  }
+
+  module _ (q′ : List ℕ) (top : ℕ) (p : Parted x (w .limit) mid t q q′ top) (size : length q′ ≡ length q) where
+    -- no cell was reached yet in this wave, so that the order of those before it does not matter
+    going : Going w x q′ t
+    going = record {
+      border = g .border;
+      cells = g .cells;
+      room = record { few = g .room .few; narrow = omega (arith, g .room .narrow); enough = omega (arith, g .room .enough) };
+      order = g .order;
+      kinds = g .kinds;
+      free = g .free;
+      shut = g .shut;
+      start = g .start;
+      below = g .below;
+      support = g .support;
+      relaxed = g .relaxed;
+      listed = λ z e f. absurd (omega (arith, ap (λ (l : List ℕ). at l z) (r .begins .0)));
+      queued = λ i m n. absurd (omega (arith, r .begins .1));
     }
       where
-        n : PassDone w i top x₀ q₀ x q t′
-        n = old w e r
+        g : Going w x q t
+        g = r .going
 
-        value : at x₀ c ≡ at x c
-        value = settled w i top x₀ q₀ x q t′ n c (omega arith)
+    due : (k : ℕ) → mid ≤ k → k < t → Due x (w .limit) (getD q′ k 0)
+    due k m n = let l = p .old k m n in subst (Due x (w .limit)) (l .here) (r .cells (l .index) (l .after) (l .before))
 
-        k : Offered w (λ h. h < 8) c x q x′ q′ t″
-        k =
-            let d = due w e r in
-            l .keeps w (n .going) (r .small)
-            (record { free = omega (arith, value, d .reached .free); after = omega (arith, value, d .after); near = omega arith })
-
-        stay : (y : ℕ) → y < w .end → getD q′ y 0 ≡ getD q y 0
-        stay y m = k .falls .queue y m
-
-        done : (y h d : ℕ) → j ≤ y → y < w .end → at x₀ (getD q₀ y 0) < w .limit → WorkStep (w .floor) h (getD q₀ y 0) d → Dec (y ≡ j)
-            → at x′ d ≤ stepped h (at x₀ (getD q₀ y 0))
-        done y h d m o u v (no f) = omega (arith, n .done y h d (omega arith) o u v, k .falls .low d)
-        done y h d m o u v (yes f) =
-            let g = here w e r y f in
-            let a : stepped h (at x₀ (getD q₀ y 0)) ≡ stepped h (at x c) = ap (λ (z : ℕ). stepped h (at x₀ z)) g ∙ ap (stepped h) value in
-            omega (arith, k .done h d (v .heading) (subst (λ (z : ℕ). WorkStep (w .floor) h z d) g v))
-
-        listed : (y : ℕ) → j ≤ y → y < w .end → w .limit ≤ at x₀ (getD q₀ y 0) → Dec (y ≡ j) → Listed q′ top (w .end) (getD q₀ y 0)
-        listed y m o u (no f) =
-            let a = n .listed y (omega arith) o u in
-            record { index = a .index; here = stay (a .index) (a .before) ∙ a .here; after = a .after; before = a .before }
-        listed y m o u (yes f) =
-            absurd (omega (arith, value, ap (at x₀) (here w e r y f)))
-
-    pub passed-step : Passed mid t limit x₀ q₀ (i - 1) top x′ q′ t″
-    passed-step = record { order = omega (arith, s .order); keeps = more }
-
-  module _ (past : limit ≤ at x (getD q (i - 1) 0)) where
-    abbrev q′ : List ℕ
-    q′ = set q (top - 1) c
-
-    wait : (w : Wave) → w .limit ≡ limit → PassReady w x₀ q₀ mid t → PassDone w (i - 1) (top - 1) x₀ q₀ x q′ t′
-    wait w e r = record {
-      going = aside w x q t′ (top - 1) c (n .going) (λ y m o f. omega (arith, last));
-      low = n .low;
-      keep = n .keep;
-      high = n .high;
-      rest = λ y m. stay y (omega (arith, s .order)) ∙ n .rest y (omega arith);
-      done = λ y h d m o u v. n .done y h d (after y m u) o u v;
-      waits = λ y m o. waits y m o (ℕ-discrete y (top - 1));
-      listed = λ y m o u. listed y m o u (ℕ-discrete y j);
-      fewer = λ y m o u. omega (arith, n .fewer y (after y m u) o u);
+    pub steps-ready : StepsReady w x q′ mid top t
+    steps-ready = record {
+      going = going;
+      small = r .small;
+      begins = r .begins .1;
+      order = p .order .1;
+      cells = λ k m n. let d = due k m (omega (arith, p .order)) in
+          record { free = d .reached .free; after = d .after; near = p .front k m n };
     }
-      where
-        n : PassDone w i top x₀ q₀ x q t′
-        n = old w e r
 
-        last : top - 1 < w .end
-        last = omega (arith, s .order, r .begins .1)
+    module _ (x′ q″ : List ℕ) (t′ : ℕ) (d : StepsDone w mid top x q′ x′ q″ t′) where
+      -- a cell below the wave's end stands before top, and any other behind it
+      ready : (z : ℕ) → Listed q′ mid t z → at x z < w .limit → Listed q′ mid top z
+      ready z l m = by (decLe top (l .index))
+        where
+          by : Dec (top ≤ l .index) → Listed q′ mid top z
+          by (yes n) = absurd (omega (arith, p .back (l .index) n (l .before), ap (at x) (l .here)))
+          by (no n) = record { index = l .index; here = l .here; after = l .after; before = omega arith }
 
-        value : w .limit ≤ at x₀ c
-        value = omega (arith, n .low c)
+      waiting : (z : ℕ) → Listed q′ mid t z → w .limit ≤ at x z → Listed q″ top (w .end) z
+      waiting z l m = by (decLe top (l .index))
+        where
+          by : Dec (top ≤ l .index) → Listed q″ top (w .end) z
+          by (yes n) =
+              let u : l .index < w .end = omega (arith, l .before, r .begins .1) in
+              record { index = l .index; here = d .falls .queue (l .index) u ∙ l .here; after = n; before = u }
+          by (no n) = absurd (omega (arith, p .front (l .index) (l .after) (omega arith), ap (at x) (l .here)))
 
-        stay : (y : ℕ) → y ≢ top - 1 → getD q′ y 0 ≡ getD q y 0
-        stay y m = getD-set-other q (top - 1) y c 0 m
+      kept : (k : ℕ) → mid ≤ k → k < w .end → Listed q′ mid t (getD q k 0)
+      kept k m n = p .kept k m (omega (arith, r .begins .1))
 
-        moved : getD q′ (top - 1) 0 ≡ c
-        moved = getD-set-same q (top - 1) c 0 (pass-safe w e r .place)
+      done : (k h b : ℕ) → mid ≤ k → k < w .end → at x (getD q k 0) < w .limit → WorkStep (w .floor) h (getD q k 0) b
+          → at x′ b ≤ stepped h (at x (getD q k 0))
+      done k h b m n u s =
+          let l = ready (getD q k 0) (kept k m n) u in
+          let e : stepped h (at x (getD q′ (l .index) 0)) ≡ stepped h (at x (getD q k 0)) = ap (λ (z : ℕ). stepped h (at x z)) (l .here) in
+          omega (arith, d .done (l .index) h b (l .after) (l .before) (subst (λ (z : ℕ). WorkStep (w .floor) h z b) (sym (l .here)) s))
 
-        -- the cell at j waits, so what takes its steps stands behind it
-        after : (y : ℕ) → j ≤ y → at x₀ (getD q₀ y 0) < w .limit → i ≤ y
-        after y m u = by (ℕ-discrete y j)
-          where
-            by : Dec (y ≡ j) → i ≤ y
-            by (yes f) = absurd (omega (arith, value, ap (at x₀) (here w e r y f)))
-            by (no f) = omega arith
+      waits : (k : ℕ) → top ≤ k → k < w .end → (Reached x (getD q″ k 0)) × (w .limit ≤ at x (getD q″ k 0))
+      waits k m n =
+          let u : k < t = omega (arith, r .begins .1) in
+          subst (λ (z : ℕ). Reached x z × (w .limit ≤ at x z)) (sym (d .falls .queue k n)) (due k (omega (arith, p .order)) u .reached, p .back k m u)
 
-        waits : (y : ℕ) → top - 1 ≤ y → y < w .end → Dec (y ≡ top - 1) → Waits w (getD q′ y 0)
-        waits y m o (yes f) =
-            subst (Waits w) (sym (ap (λ (z : ℕ). getD q′ z 0) f ∙ moved)) (due w e r .reached, value)
-        waits y m o (no f) = subst (Waits w) (sym (stay y f)) (n .waits y (omega arith) o)
+      pub pass-done : PassDone w mid top x q x′ q″ t′
+      pass-done = record {
+        going = d .going;
+        low = d .falls .low;
+        keep = d .falls .keep;
+        high = d .falls .high;
+        done = done;
+        waits = waits;
+        listed = λ k m n u. waiting (getD q k 0) (kept k m n) u;
+        fewer = λ k m n u. let l = ready (getD q k 0) (kept k m n) u in omega (arith, l .after, l .before);
+      }
 
-        listed : (y : ℕ) → j ≤ y → y < w .end → w .limit ≤ at x₀ (getD q₀ y 0) → Dec (y ≡ j) → Listed q′ (top - 1) (w .end) (getD q₀ y 0)
-        listed y m o u (no f) =
-            let a = n .listed y (omega arith) o u in
-            record {
-              index = a .index;
-              here = stay (a .index) (omega (arith, a .after, s .order)) ∙ a .here;
-              after = omega (arith, a .after);
-              before = a .before;
-            }
-        listed y m o u (yes f) = record {
-          index = top - 1;
-          here = moved ∙ sym (here w e r y f);
-          after = omega arith;
-          before = last;
-        }
+-- for the limit that is given, which is the wave's
+module _ (mid fresh t limit : ℕ) (x q q′ : List ℕ) (top : ℕ) (p : Parted x limit fresh t q q′ top) (size : length q′ ≡ length q) where
+  -- those that waited are ready and stand before the fresh ones, so that all of q[mid..t] are parted
+  parted : (w : Wave) → w .limit ≡ limit → PassReady w x q mid fresh t → Parted x (w .limit) mid t q q′ top
+  parted w e r =
+      parted-before x (w .limit) mid fresh t q q′ top (subst (λ (v : ℕ). Parted x v fresh t q q′ top) (sym e) p) (r .order .0) (r .waited)
 
-    pub passed-wait : Passed mid t limit x₀ q₀ (i - 1) (top - 1) x (set q (top - 1) (getD q (i - 1) 0)) t′
-    passed-wait = record { order = omega (arith, s .order); keeps = wait }
+  pub steps-begun : PassBegun x q mid fresh t limit → StepsBegun x q′ mid top t
+  steps-begun b = record {
+    wave = b .wave;
+    ready = steps-ready (b .wave) x q mid fresh t (b .ready) q′ top (parted (b .wave) (b .ends) (b .ready)) size;
+  }
 
-pub passed-all : (mid t limit : ℕ) (x₀ q₀ : List ℕ) (i top : ℕ) (x q : List ℕ) (t′ : ℕ) → Passed mid t limit x₀ q₀ i top x q t′ → i ≤ mid
-    → PassLeft mid t limit x₀ q₀ x q top t′
-passed-all mid t limit x₀ q₀ i top x q t′ s b = record {
-  order = omega (arith, s .order);
-  keeps = λ w e r. let f : i ≡ mid = omega (arith, s .order) in subst (λ (z : ℕ). PassDone w z top x₀ q₀ x q t′) f (s .keeps w e r);
-}
+  pub pass-left : (x′ q″ : List ℕ) (t′ : ℕ) → StepsLeft mid top t x q′ x′ q″ t′ → PassLeft mid fresh t limit x q x′ q″ top t′
+  pass-left x′ q″ t′ l = record {
+    order = p .order .1;
+    keeps = λ w e r. let u = parted w e r in
+        pass-done w x q mid fresh t r q′ top u size x′ q″ t′ (l w (steps-ready w x q mid fresh t r q′ top u size));
+  }

@@ -44,7 +44,7 @@ pub record Low (x q : List ℕ) (mid tail limit : ℕ) : Type 0 where
   pub before : index < tail
   pub near : at x (getD q index 0) < limit
 
-module _ (floor : List ℕ) (goal mid tail limit : ℕ) (x q : List ℕ) (g : Between floor goal mid tail limit x q) (more : mid < tail) where
+module _ (floor : List ℕ) (goal mid fresh tail limit : ℕ) (x q : List ℕ) (g : Between floor goal mid fresh tail limit x q) (more : mid < tail) where
   pub small : limit ≤ highest
   small = omega (arith, g .count, g .going .room)
 

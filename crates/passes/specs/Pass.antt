@@ -1,12 +1,62 @@
--- One pass: the cells q[mid..t] that were reached and have not taken their steps when a wave begins. Those below the wave's end take them, and
--- the others wait.
+-- One pass: the cells q[mid..t] that were reached and have not taken their steps when a wave begins. Those below the wave's end are ready: they
+-- take their steps, and the others wait. The first ones, q[mid..fresh], waited in the wave before, and are all ready; of the fresh ones,
+-- q[fresh..t], the ready ones are brought before the others.
 -- Assumes nothing.
 use mathlib.Core.Path.{_≡_}
 use mathlib.Core.List.{List}
 use Prim.Native.Nat.{ℕ, _+_, _≤_, _<_}
-use lib.ListN.{getD}
-use Rattle.offers.specs.Work.{span, highest, stepped, at, WorkStep}
-use Rattle.offers.specs.Wave.{Wave, Listed, Reached, Going}
+use lib.ListN.{getD, length}
+use Rattle.offers.specs.Work.{largest, span, highest, stepped, at, WorkStep}
+use Rattle.offers.specs.Wave.{Wave, Listed, Reached, Going, Falls}
+use Rattle.offers.specs.Taken.{This}
+
+-- r is 1 if v is below limit, else 0
+pub record Below (v limit r : ℕ) : Type 0 where
+  pub most : r ≤ 1
+  pub one : 0 < r → v < limit
+  pub none : r ≡ 0 → limit ≤ v
+
+-- q[mid..t] are places of the work array, and both are small
+pub record Places (x q : List ℕ) (mid t : ℕ) : Type 0 where
+  pub few : length x ≤ largest
+  pub narrow : length q ≤ largest
+  pub order : mid ≤ t
+  pub fits : t ≤ length q
+  pub cells : (k : ℕ) → mid ≤ k → k < t → getD q k 0 < length x
+
+-- the cells q[mid..t] stand in another order: those below limit up to top, and the others from there on
+pub record Parted (x : List ℕ) (limit mid t : ℕ) (q q′ : List ℕ) (top : ℕ) : Type 0 where
+  pub order : (mid ≤ top) × (top ≤ t)
+  pub front : (k : ℕ) → mid ≤ k → k < top → at x (getD q′ k 0) < limit
+  pub back : (k : ℕ) → top ≤ k → k < t → limit ≤ at x (getD q′ k 0)
+  -- none is lost, and none is new
+  pub kept : (k : ℕ) → mid ≤ k → k < t → Listed q′ mid t (getD q k 0)
+  pub old : (k : ℕ) → mid ≤ k → k < t → Listed q mid t (getD q′ k 0)
+  -- what stands before them or behind them stays
+  pub head : (k : ℕ) → k < mid → getD q′ k 0 ≡ getD q k 0
+  pub rest : (k : ℕ) → t ≤ k → getD q′ k 0 ≡ getD q k 0
+
+-- the cells q[mid..top] are the wave's, and the queue ends where it did when the wave began
+pub record StepsReady (w : Wave) (x q : List ℕ) (mid top t : ℕ) : Type 0 where
+  pub going : Going w x q t
+  pub small : w .limit ≤ highest
+  pub begins : w .end ≡ t
+  pub order : top ≤ t
+  pub cells : (k : ℕ) → mid ≤ k → k < top → This x (w .limit) (getD q k 0)
+
+pub record StepsBegun (x q : List ℕ) (mid top t : ℕ) : Type 0 where
+  pub wave : Wave
+  pub ready : StepsReady wave x q mid top t
+
+-- the cells q[mid..i] have taken their steps
+pub record StepsDone (w : Wave) (mid i : ℕ) (x q x′ q′ : List ℕ) (t′ : ℕ) : Type 0 where
+  pub going : Going w x′ q′ t′
+  pub falls : Falls w x q x′ q′
+  pub done : (k h b : ℕ) → mid ≤ k → k < i → WorkStep (w .floor) h (getD q k 0) b → at x′ b ≤ stepped h (at x (getD q k 0))
+
+-- all of q[mid..top] have, in every wave whose cells they are
+abbrev pub StepsLeft : (mid top t : ℕ) (x q x′ q′ : List ℕ) (t′ : ℕ) → Type 0
+StepsLeft mid top t x q x′ q′ t′ = (w : Wave) → StepsReady w x q mid top t → StepsDone w mid top x q x′ q′ t′
 
 -- the cell at p is one of the wave that ends at limit, or of a later one
 pub record Due (x : List ℕ) (limit p : ℕ) : Type 0 where
@@ -14,33 +64,34 @@ pub record Due (x : List ℕ) (limit p : ℕ) : Type 0 where
   pub after : limit ≤ at x p + span
 
 -- the wave begins
-pub record PassReady (w : Wave) (x q : List ℕ) (mid t : ℕ) : Type 0 where
+pub record PassReady (w : Wave) (x q : List ℕ) (mid fresh t : ℕ) : Type 0 where
   pub going : Going w x q t
   pub small : w .limit ≤ highest
   pub begins : (w .before ≡ x) × (w .end ≡ t)
-  pub order : mid ≤ t
+  pub order : (mid ≤ fresh) × (fresh ≤ t)
   pub cells : (i : ℕ) → mid ≤ i → i < t → Due x (w .limit) (getD q i 0)
+  -- those that waited in the wave before are ready
+  pub waited : (i : ℕ) → mid ≤ i → i < fresh → at x (getD q i 0) < w .limit
 
-pub record PassBegun (x q : List ℕ) (mid t limit : ℕ) : Type 0 where
+pub record PassBegun (x q : List ℕ) (mid fresh t limit : ℕ) : Type 0 where
   pub wave : Wave
   pub ends : wave .limit ≡ limit
-  pub ready : PassReady wave x q mid t
+  pub ready : PassReady wave x q mid fresh t
 
--- the cells from i on have taken their steps, or wait at q[top..t]; those before i are where they were
-pub record PassDone (w : Wave) (i top : ℕ) (x q x′ q′ : List ℕ) (t′ : ℕ) : Type 0 where
+-- the cells from mid on have taken their steps, or wait at q[top..t]
+pub record PassDone (w : Wave) (mid top : ℕ) (x q x′ q′ : List ℕ) (t′ : ℕ) : Type 0 where
   pub going : Going w x′ q′ t′
   pub low : (z : ℕ) → at x′ z ≤ at x z
   pub keep : (z : ℕ) → at x z < w .limit → at x′ z ≡ at x z
   pub high : (z : ℕ) → w .limit ≤ at x z → w .limit ≤ at x′ z
-  pub rest : (k : ℕ) → k < i → getD q′ k 0 ≡ getD q k 0
   pub done :
-      (k h b : ℕ) → i ≤ k → k < w .end → at x (getD q k 0) < w .limit → WorkStep (w .floor) h (getD q k 0) b
+      (k h b : ℕ) → mid ≤ k → k < w .end → at x (getD q k 0) < w .limit → WorkStep (w .floor) h (getD q k 0) b
       → at x′ b ≤ stepped h (at x (getD q k 0))
   pub waits : (k : ℕ) → top ≤ k → k < w .end → (Reached x (getD q′ k 0)) × (w .limit ≤ at x (getD q′ k 0))
-  pub listed : (k : ℕ) → i ≤ k → k < w .end → w .limit ≤ at x (getD q k 0) → Listed q′ top (w .end) (getD q k 0)
+  pub listed : (k : ℕ) → mid ≤ k → k < w .end → w .limit ≤ at x (getD q k 0) → Listed q′ top (w .end) (getD q k 0)
   -- if a cell has taken its steps, fewer wait than there were
-  pub fewer : (k : ℕ) → i ≤ k → k < w .end → at x (getD q k 0) < w .limit → i < top
+  pub fewer : (k : ℕ) → mid ≤ k → k < w .end → at x (getD q k 0) < w .limit → mid < top
 
-pub record PassLeft (mid t limit : ℕ) (x q x′ q′ : List ℕ) (top t′ : ℕ) : Type 0 where
-  pub order : (mid ≤ top) × (top ≤ t)
-  pub keeps : (w : Wave) → w .limit ≡ limit → PassReady w x q mid t → PassDone w mid top x q x′ q′ t′
+pub record PassLeft (mid fresh t limit : ℕ) (x q x′ q′ : List ℕ) (top t′ : ℕ) : Type 0 where
+  pub order : top ≤ t
+  pub keeps : (w : Wave) → w .limit ≡ limit → PassReady w x q mid fresh t → PassDone w mid top x q x′ q′ t′

@@ -1,7 +1,7 @@
 // Wave after wave, from the goal. A wave is one straight step wide: when it begins, all numbers below its end are settled. Its cells take all
 // their steps, in whatever order; what they reach lies in the next wave or, by a diagonal step, in the one after that.
 // The goal takes its steps first and is never queued, so that the queue has at most one cell fewer than the floor.
-ghost use Rattle.passes.specs.Pass.{PassBegun, PassLeft};
+ghost use Rattle.passes.specs.Pass.{Below, Places, Parted, StepsBegun, StepsLeft, PassBegun, PassLeft};
 ghost use Rattle.passes.specs.Solved.{Loaded, Solved};
 
 // The part of the queue that the next wave has before it.
@@ -10,25 +10,63 @@ pub struct Part {
     pub tail: usize,
 }
 
-// One wave, which ends at limit, over the cells queue[mid..tail]: those below the limit take their steps, and the others wait, moved to the
-// end of their part of the queue, so that they stand right before the cells that are reached now.
-fn one_wave(work: &mut [u32], queue: &mut [u32], mid: usize, tail: usize, limit: u32) -> Part
-    requires { ⌜ PassBegun (now work) (now queue) mid tail limit ⌝ }
-    ensures { λ r. ⌜ PassLeft mid tail limit (now (work .entry)) (now (queue .entry)) (now (work .exit)) (now (queue .exit)) (r .mid) (r .tail) ⌝ }
+// 1 if a number is below the limit, else 0.
+fn below(number: u32, limit: u32) -> usize
+    ensures { λ r. ⌜ Below number limit r ⌝ }
+{
+    if number < limit { 1 } else { 0 }
+}
+
+// Brings the cells of queue[mid..tail] that are ready, below the limit, before those that wait. Gives where the first one that waits stands.
+// Which cells are ready is hard to foresee, so that each is swapped, without a test, to where the ready ones end, and counts there if it is one.
+fn ready_first(work: &[u32], queue: &mut [u32], mid: usize, tail: usize, limit: u32) -> usize
+    requires { ⌜ Places (now work) (now queue) mid tail ⌝ }
+    ensures { λ r. ⌜ Parted (now (work .entry)) limit mid tail (now (queue .entry)) (now (queue .exit)) r ⌝ }
+{
+    let mut top = mid;
+    let mut i = mid;
+    while i < tail {
+        let cell = queue[i];
+        queue[i] = queue[top];
+        queue[top] = cell;
+        top += below(work[cell as usize], limit);
+        i += 1;
+    }
+    top
+}
+
+// The ready cells queue[mid..top] take their steps. Gives where the queue ends then.
+fn ready_steps(work: &mut [u32], queue: &mut [u32], mid: usize, top: usize, tail: usize) -> usize
+    requires { ⌜ StepsBegun (now work) (now queue) mid top tail ⌝ }
+    ensures { λ r. ⌜ StepsLeft mid top tail (now (work .entry)) (now (queue .entry)) (now (work .exit)) (now (queue .exit)) r ⌝ }
 {
     let mut end = tail;
-    let mut top = tail;
-    let mut i = tail;
-    while mid < i {
-        i -= 1;
+    let mut i = mid;
+    while i < top {
         let from = queue[i] as usize;
-        if work[from] < limit {
-            end = offers::cell_steps(work, queue, end, from);
-        } else {
-            top -= 1;
-            queue[top] = from as u32;
-        }
+        end = offers::cell_steps(work, queue, end, from);
+        i += 1;
     }
+    end
+}
+
+// One wave, which ends at limit, over the cells queue[mid..tail]: those below the limit take their steps, and the others wait, moved to the
+// end of their part of the queue, so that they stand right before the cells that are reached now.
+// A cell waits at most once: what was reached before a wave lies less than one straight step past that wave's end, and so below the end of the
+// next one. So the cells that waited in the wave before, queue[mid..fresh], are all ready, and only the fresh ones, which it reached, are parted.
+fn one_wave(
+    work: &mut [u32],
+    queue: &mut [u32],
+    mid: usize,
+    fresh: usize,
+    tail: usize,
+    limit: u32,
+) -> Part
+    requires { ⌜ PassBegun (now work) (now queue) mid fresh tail limit ⌝ }
+    ensures { λ r. ⌜ PassLeft mid fresh tail limit (now (work .entry)) (now (queue .entry)) (now (work .exit)) (now (queue .exit)) (r .mid) (r .tail) ⌝ }
+{
+    let top = ready_first(work, queue, fresh, tail, limit);
+    let end = ready_steps(work, queue, mid, top, tail);
     Part {
         mid: top,
         tail: end,
@@ -41,10 +79,12 @@ pub fn all_waves(work: &mut [u32], queue: &mut [u32], goal: usize)
     ensures { λ r. ⌜ Solved (now (work .entry)) goal (now (work .exit)) ⌝ }
 {
     let mut mid: usize = 0;
+    let mut fresh: usize = 0;
     let mut tail = offers::cell_steps(work, queue, 0, goal);
     let mut limit: u32 = 3 * offers::STRAIGHT;
     while mid < tail {
-        let part = one_wave(work, queue, mid, tail, limit);
+        let part = one_wave(work, queue, mid, fresh, tail, limit);
+        fresh = tail;
         mid = part.mid;
         tail = part.tail;
         limit += offers::STRAIGHT;

@@ -1,5 +1,5 @@
--- The list of lines of specs/Prints and the lines of specs/Lines are the same: a list is what is printed exactly if it has as many lines as there are, and
--- each of them is the line with its number. So there is one such list at most.
+-- Document 01's list of lines (`Prints`) and the lines of specs/Lines are the same: a list is what is printed exactly if it has as many lines as there
+-- are, and each of them is the line with its number. So there is one such list at most.
 -- Assumes nothing.
 use mathlib.Core.Path.{_≡_, refl, ap, subst, sym}
 use mathlib.Core.List.{List, [], _∷_}
@@ -10,12 +10,33 @@ use lib.Seq.{ext-getD}
 use Rattle.floor.specs.Floor.{Map}
 use Rattle.plan.specs.declared.Query.{Query}
 use Rattle.plan.specs.Sound.{Contents, Sound}
+use Rattle.plan.specs.Break.{Broken}
 use Rattle.plan.proofs.Only.{one-contents}
 use Rattle.text.specs.Text.{line, wordLine, floorWord}
 use Rattle.printing.specs.Query.{QueryNumbers}
-use Rattle.printing.specs.Prints.{mapIn, planRefused, QueryLines, Prints}
-use Rattle.printing.specs.Lines.{noQuery, LineAt, LineCount}
+use Rattle.printing.specs.Lines.{mapIn, planRefused, noQuery, LineAt, LineCount}
 use Rattle.printing.proofs.OneLine.{one-line, one-count}
+
+-- the queries' lines, numbered from so much on
+pub data QueryLines (m : Map) (size : ℕ) : ℕ → List Query → List (List ℕ) → Type 0 where
+  none : {number : ℕ} → QueryLines m size number [] []
+  next :
+      {number : ℕ} {q : Query} {qs : List Query} {ns : List ℕ} {ls : List (List ℕ)} → QueryNumbers m size number q ns
+      → QueryLines m size (suc number) qs ls → QueryLines m size number (q ∷ qs) (line ns ∷ ls)
+
+-- the lines that are printed
+pub data Prints (input : List ℕ) : List (List ℕ) → Type 0 where
+  -- input over 4,096 bytes prints "14 4096"
+  too-long : 4096 < length input → Prints input (line (14 ∷ 4096 ∷ []) ∷ [])
+  -- a broken plan prints "14" and the offset
+  broken : (at : ℕ) → length input ≤ 4096 → Broken input at → Prints input (line (14 ∷ at ∷ []) ∷ [])
+  -- else refusal 1, 2, 3 or 13, the first that holds, alone on a line
+  refused : (c : Contents) → length input ≤ 4096 → Sound input c → 0 < planRefused c → Prints input (line (planRefused c ∷ []) ∷ [])
+  -- otherwise a line "floor", width, height, cell size; then for each query its number from 1, and its answer
+  answered :
+      (c : Contents) (ls : List (List ℕ)) → length input ≤ 4096 → Sound input c → planRefused c ≡ 0
+      → QueryLines (mapIn c) (c .size) 1 (c .queries) ls
+      → Prints input (wordLine floorWord (c .width ∷ c .height ∷ c .size ∷ []) ∷ ls)
 
 -- a line of a query
 pub record Answers (m : Map) (size number : ℕ) (q : Query) (l : List ℕ) : Type 0 where

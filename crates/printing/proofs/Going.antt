@@ -11,10 +11,9 @@ use Rattle.io.specs.Counts.{Counts}
 use Rattle.text.specs.Put.{Put}
 use Rattle.text.proofs.Puts.{put-then, none-put, length-put}
 use Rattle.printing.specs.declared.Printed.{Printed}
-use Rattle.printing.specs.Prints.{joined}
+use Rattle.printing.specs.Shown.{joined, Shown}
 use Rattle.printing.specs.Lines.{LineAt, LineCount}
 use Rattle.lines.specs.LineRoom.{lineRoom}
-use Rattle.printing.specs.Shown.{Shown}
 use Rattle.lines.specs.Written.{Writes}
 use Rattle.printing.specs.Inner.{Progress}
 

@@ -27,8 +27,7 @@ use Rattle.text.specs.Text.{line}
 use Rattle.lines.specs.declared.Head.{Head}
 use Rattle.lines.specs.declared.Head.the-variants as head
 use Rattle.printing.specs.Query.{QueryNumbers}
-use Rattle.printing.specs.Prints.{mapIn, orElse, planRefused}
-use Rattle.printing.specs.Lines.{noQuery, LineAt, LineCount}
+use Rattle.printing.specs.Lines.{mapIn, orElse, planRefused, noQuery, LineAt, LineCount}
 use Rattle.lines.specs.Written.{headLine}
 use Rattle.printing.specs.Inner.{QueryLine, Heads, Taken, Opened, sizeHead, countOf}
 

@@ -22,8 +22,7 @@ use Rattle.walking.specs.Read.{Routes}
 use Rattle.walking.proofs.LegsOf.{legs-unique}
 use Rattle.text.specs.Text.{line, wordLine, floorWord}
 use Rattle.printing.specs.Query.{startOf, goalOf, QueryNumbers}
-use Rattle.printing.specs.Prints.{mapIn, planRefused}
-use Rattle.printing.specs.Lines.{noQuery, LineAt, LineCount}
+use Rattle.printing.specs.Lines.{mapIn, planRefused, noQuery, LineAt, LineCount}
 
 -- a query has one answer
 module _ (m : Map) (size number : ℕ) (q : Query) where

@@ -11,9 +11,8 @@ use lib.ListN.{length, getD, take, length-take}
 use lib.Seq.{getD-take, ext-getD}
 use Rattle.text.specs.Put.{put}
 use Rattle.printing.specs.declared.Printed.{Printed}
-use Rattle.printing.specs.Prints.{joined}
+use Rattle.printing.specs.Shown.{joined, Shown}
 use Rattle.printing.specs.Lines.{LineAt, LineCount}
-use Rattle.printing.specs.Shown.{Shown}
 use Rattle.printing.proofs.OneLine.{one-line, one-count}
 use Rattle.printing.proofs.print_lines.Reads as print-lines
 

@@ -18,8 +18,8 @@ use Rattle.lines.specs.declared.Head.{Head}
 use Rattle.lines.specs.declared.Head.the-variants as head
 use Rattle.lines.specs.LineRoom.{lineRoom}
 use Rattle.printing.specs.Query.{QueryNumbers}
-use Rattle.printing.specs.Prints.{planRefused, joined}
-use Rattle.printing.specs.Lines.{LineAt}
+use Rattle.printing.specs.Lines.{planRefused, LineAt}
+use Rattle.printing.specs.Shown.{joined}
 
 -- the line of a query
 pub data QueryLine (m : Map) (size number : ℕ) (q : Query) : List ℕ → Type 0 where

@@ -1,16 +1,32 @@
--- Document 01, `What "ways" prints`, line by line: which line has a number, counted from 0, and how many lines there are. That this is the list of
--- specs/Prints, taken apart, is proved in proofs/Apart.
+-- Document 01, `What "ways" prints`, line by line: which line has a number, counted from 0, and how many lines there are. That there is one list of
+-- lines with these numbers, the document's, is proved in proofs/Apart.
 -- Assumes nothing.
 use mathlib.Core.Path.{_≡_}
 use mathlib.Core.List.{List, [], _∷_}
-use Prim.Native.Nat.{ℕ, suc, _≤_, _<_}
+use Prim.Native.Nat.{ℕ, zero, suc, _≤_, _<_}
 use lib.ListN.{length, getD}
+use Rattle.given.specs.Given.{pick}
+use Rattle.lengths.specs.Answers.{sizeOutside}
+use Rattle.floor.specs.Floor.{Map, mapOf}
+use Rattle.floor.specs.Refusals.{floorRefused}
 use Rattle.plan.specs.declared.Query.{Query}
 use Rattle.plan.specs.Sound.{Contents, Sound}
 use Rattle.plan.specs.Break.{Broken}
 use Rattle.text.specs.Text.{line, wordLine, floorWord}
 use Rattle.printing.specs.Query.{QueryNumbers}
-use Rattle.printing.specs.Prints.{mapIn, planRefused}
+
+-- the floor of a plan
+abbrev pub mapIn : Contents → Map
+mapIn c = mapOf (c .width) (c .height) (c .map)
+
+-- a number, or another where it is 0
+abbrev pub orElse : ℕ → ℕ → ℕ
+orElse zero n = n
+orElse (suc k) n = suc k
+
+-- refusal 1, 2, 3 or 13, the first that holds
+abbrev pub planRefused : Contents → ℕ
+planRefused c = orElse (floorRefused (mapIn c)) (pick (sizeOutside (c .size)) 13 0)
 
 -- what stands past the end of the queries
 abbrev pub noQuery : Query

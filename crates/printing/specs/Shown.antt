@@ -1,14 +1,18 @@
 -- What printing into a lent buffer answers and leaves there.
 -- Assumes nothing.
 use mathlib.Core.Path.{_≡_}
-use mathlib.Core.List.{List, []}
+use mathlib.Core.List.{List, [], _∷_, _++_}
 use Prim.Native.Nat.{ℕ, _+_, _-_, _≤_, _<_}
 use lib.ListN.{length, getD, take}
 use Rattle.text.specs.Put.{Put}
 use Rattle.lines.specs.LineRoom.{lineRoom}
 use Rattle.printing.specs.declared.Printed.{Printed}
-use Rattle.printing.specs.Prints.{joined}
 use Rattle.printing.specs.Lines.{LineAt, LineCount}
+
+-- lines, one after the other
+abbrev pub joined : List (List ℕ) → List ℕ
+joined [] = []
+joined (l ∷ ls) = l ++ joined ls
 
 -- the lines from a number on, one after the other from the buffer's front, and nothing else changed: a line is written while there is
 -- room for any line, and the answer has the bytes and the lines that were written and the lines that are left

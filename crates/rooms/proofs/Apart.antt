@@ -5,12 +5,11 @@ use Prim.Native.Nat.{ℕ, _%_, _/_, _≤_, _<_}
 use native.Mathlib.Omega.{arith}
 use Rattle.lengths.specs.declared.Length.{Length}
 use Rattle.lengths.specs.Order.{_⊕_, _⊑_}
-use Rattle.steps.specs.Heading.{changes, changeOf, weight, straightStep, diagonalStep}
+use Rattle.steps.specs.Heading.{changes, changeOf, weight}
 use Rattle.steps.specs.Way.{Way}
 use Rattle.steps.specs.Step.{Moved}
 use Rattle.steps.proofs.Grid.{Floor, graph, eight}
-use Rattle.rooms.specs.Room.{distance, roomLength}
-use Rattle.rooms.proofs.RoomFormula.{distance-self, formula-zero, Near, across, along, aslant, potential}
+use Rattle.rooms.proofs.RoomFormula.{straightStep, diagonalStep, distance, roomLength, distance-self, formula-zero, Near, across, along, aslant, potential}
 
 -- a heading changes column and row by one at most, and a straightStep one keeps the one or the other
 pub data Kind (h : ℕ) : Type 0 where

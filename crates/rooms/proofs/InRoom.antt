@@ -7,12 +7,11 @@ use native.Mathlib.Omega.{arith}
 use native.Mathlib.Decide.{decLe, ℕ-discrete}
 use Rattle.lengths.specs.declared.Length.{Length}
 use Rattle.lengths.specs.Order.{_⊕_, _⊑_}
-use Rattle.steps.specs.Heading.{changes, changeOf, weight, straightStep, diagonalStep}
+use Rattle.steps.specs.Heading.{changes, changeOf, weight}
 use Rattle.steps.specs.Way.{Way, stay, step, Shortest, Only}
 use Rattle.steps.specs.Step.{Moved}
-use Rattle.rooms.specs.Room.{distance, roomLength}
 use Rattle.steps.proofs.Ways.{way-to}
-use Rattle.rooms.proofs.RoomFormula.{distance-self, formula-zero, formula-up, formula-level, formula-slant}
+use Rattle.rooms.proofs.RoomFormula.{straightStep, diagonalStep, distance, roomLength, distance-self, formula-zero, formula-up, formula-level, formula-slant}
 use Rattle.steps.proofs.Grid.{Floor, graph, cell, cell-column, cell-row}
 use Rattle.rooms.proofs.Apart.{apart-least}
 

@@ -1,14 +1,27 @@
 -- The room formula: (|dx − dy|, the lesser of dx and dy) is not above any way, by the steps' column and row changes.
 -- Assumes nothing.
 use mathlib.Core.Path.{_≡_, sym, subst}
-use Prim.Native.Nat.{ℕ, suc, _+_, _≤_}
+use Prim.Native.Nat.{ℕ, suc, _+_, _-_, min, _≤_}
 use native.Mathlib.Omega.{arith}
 use Rattle.lengths.specs.declared.Length.{Length}
 use Rattle.lengths.specs.Order.{zeroLength, _⊕_, _⊑_}
 use Rattle.lengths.proofs.Order.{length-ext, ⊑-refl, ⊑-trans, ⊕-mono, by-steps, by-doubles}
-use Rattle.steps.specs.Heading.{straightStep, diagonalStep}
 use Rattle.steps.specs.Way.{Graph, Way, stay, step}
-use Rattle.rooms.specs.Room.{distance, roomLength}
+
+-- one straight step, one diagonal step
+abbrev pub straightStep : Length
+straightStep = record { straight = 1; diagonal = 0 }
+
+abbrev pub diagonalStep : Length
+diagonalStep = record { straight = 0; diagonal = 1 }
+
+-- the distance of two columns, or of two rows
+unfoldable pub distance : ℕ → ℕ → ℕ
+distance a b = (a - b) + (b - a)
+
+-- between two cells of one room the shortest length is (|dx − dy|, the lesser of dx and dy)
+abbrev pub roomLength : ℕ → ℕ → Length
+roomLength dx dy = record { straight = distance dx dy; diagonal = min dx dy }
 
 pub distance-self : (a : ℕ) → distance a a ≡ 0
 unfolding distance

@@ -2,9 +2,8 @@
 -- next column of that height is open. The answer is left, top, right, bottom.
 -- Assumes nothing.
 use mathlib.Core.Bool.{Bool, true}
-use Prim.Native.Nat.{ℕ, zero, suc, _+_, _-_, min}
+use Prim.Native.Nat.{ℕ, zero, suc, _+_, _-_}
 use Rattle.given.specs.Given.{pick}
-use Rattle.lengths.specs.declared.Length.{Length}
 use Rattle.rooms.specs.declared.Room.{Room}
 use Rattle.floor.specs.Floor.{Map, both, open?}
 
@@ -44,11 +43,3 @@ roomOf m column row =
       right = rightOf m (topOf m column row) (bottomOf m column row) column;
       bottom = bottomOf m column row;
     }
-
--- the distance of two columns, or of two rows
-unfoldable pub distance : ℕ → ℕ → ℕ
-distance a b = (a - b) + (b - a)
-
--- between two cells of one room the shortest length is (|dx − dy|, the lesser of dx and dy)
-abbrev pub roomLength : ℕ → ℕ → Length
-roomLength dx dy = record { straight = distance dx dy; diagonal = min dx dy }

@@ -5,8 +5,9 @@ use Prim.Native.Nat.{ℕ, zero, suc, _+_, _*_, _%_, _/_, _<_}
 use native.Mathlib.Omega.{arith}
 use native.Mathlib.Nat.{div-add-mod', mod-eq-of-lt, div-eq-of-lt, mul-le-mul-right, add-zero, mul-add-mod-self-right, mul-add-div-right}
 use Rattle.steps.specs.Heading.{changes, changeOf, byParity}
-use Rattle.steps.specs.Way.{Graph, Back}
+use Rattle.steps.specs.Way.{Graph}
 use Rattle.steps.specs.Step.{Moved, gridSteps}
+use Rattle.steps.proofs.Ways.{Back}
 
 -- a floor: its width, and which cells are open; those lie on it
 pub record Floor : Type 1 where

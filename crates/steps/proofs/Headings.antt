@@ -1,16 +1,33 @@
 -- The one table of headings: it is document 01's with one added to each change, and each entry is 0, 1 or 2.
 -- Assumes nothing.
 use mathlib.Core.Path.{_≡_, refl}
-use mathlib.Core.List.{map}
+use mathlib.Core.List.{List, [], _∷_, map}
 use Prim.Native.Nat.{ℕ, _≤_, _<_}
 use borrow.Author.Tests.{leb-true}
 use lib.Dec.{leb}
-use lib.IntN.{pos, _+ℤ_}
+use lib.IntN.{ℤ, pos, negsuc, _+ℤ_}
 use Rattle.steps.specs.declared.Change.{Change}
 use Rattle.floor.specs.Floor.{both}
-use Rattle.steps.specs.Heading.{Signed, headings, changes, changeOf}
+use Rattle.steps.specs.Heading.{changes, changeOf}
 use Rattle.floor.proofs.Entries.{entry}
 use Rattle.floor.proofs.Joined.{both-true}
+
+-- document 01's table: column and row change of N, NE, E, SE, S, SW, W, NW
+pub record Signed : Type 0 where
+  pub column : ℤ
+  pub row : ℤ
+
+abbrev pub headings : List Signed
+headings =
+    record { column = pos 0; row = negsuc 0 }
+    ∷ record { column = pos 1; row = negsuc 0 }
+    ∷ record { column = pos 1; row = pos 0 }
+    ∷ record { column = pos 1; row = pos 1 }
+    ∷ record { column = pos 0; row = pos 1 }
+    ∷ record { column = negsuc 0; row = pos 1 }
+    ∷ record { column = negsuc 0; row = pos 0 }
+    ∷ record { column = negsuc 0; row = negsuc 0 }
+    ∷ []
 
 -- one added to each change
 abbrev pub oneAdded : Signed → Signed

@@ -6,9 +6,10 @@ use native.Mathlib.Omega.{arith}
 use Rattle.lengths.specs.declared.Length.{Length}
 use Rattle.lengths.specs.Inner.{Within}
 use Rattle.floor.specs.Floor.{Map, cells}
-use Rattle.steps.specs.Way.{Shortest, Back}
+use Rattle.steps.specs.Way.{Shortest}
 use Rattle.steps.specs.Step.{stepsOf}
 use Rattle.floor.specs.Inner.{Sound}
+use Rattle.steps.proofs.Ways.{Back}
 use Rattle.steps.proofs.Bound.{bound}
 use Rattle.steps.proofs.Grid.{inside, back}
 use Rattle.steps.proofs.Leads.{floor}

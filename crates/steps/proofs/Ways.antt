@@ -6,7 +6,13 @@ use native.Mathlib.Omega.{arith}
 use Rattle.lengths.specs.declared.Length.{Length}
 use Rattle.lengths.specs.Order.{_⊕_}
 use Rattle.lengths.proofs.Order.{length-ext, ⊑-antisym, ⊕-cancel}
-use Rattle.steps.specs.Way.{Graph, Way, stay, step, Reach, Shortest, Only, Back}
+use Rattle.steps.specs.Way.{Graph, Way, stay, step, Reach, Shortest, Only}
+
+-- steps can be walked back, at the same length
+pub record Back (G : Graph) : Type 0 where
+  pub turn : ℕ → ℕ
+  pub back : (h x y : ℕ) → G .Step h x y → G .Step (turn h) y x
+  pub same : (h : ℕ) → G .weight (turn h) ≡ G .weight h
 
 pub append : {G : Graph} {x y z : ℕ} {l m : Length} → Way G x y l → Way G y z m → Way G x z (l ⊕ m)
 append {G} {x} {z = z} stay v = subst (Way G x z) (length-ext (omega arith) (omega arith)) v

@@ -28,9 +28,3 @@ pub record Shortest (G : Graph) (Goal : ℕ → Type 0) (x : ℕ) (l : Length) :
 -- one goal cell
 abbrev pub Only : ℕ → ℕ → Type 0
 Only goal x = x ≡ goal
-
--- steps can be walked back, at the same length
-pub record Back (G : Graph) : Type 0 where
-  pub turn : ℕ → ℕ
-  pub back : (h x y : ℕ) → G .Step h x y → G .Step (turn h) y x
-  pub same : (h : ℕ) → G .weight (turn h) ≡ G .weight h

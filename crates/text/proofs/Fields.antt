@@ -6,7 +6,7 @@ use Prim.Native.Nat.{ℕ, _^_, _≤_, _<_}
 use native.Mathlib.Omega.{arith}
 use lib.ListN.{length}
 use Rattle.text.specs.Text.{decimal, field, fieldsAfter}
-use Rattle.text.specs.Put.{numberRoom, byteRoom}
+use Rattle.text.specs.Inner.{numberRoom, byteRoom}
 use Rattle.text.proofs.Digits.{decimal-room}
 
 pub fields-append : (ms ns : List ℕ) → fieldsAfter (ms ++ ns) ≡ fieldsAfter ms ++ fieldsAfter ns

@@ -9,8 +9,20 @@ use native.Mathlib.Nat.{div-add-mod', eq-or-lt-of-le}
 use lib.Arith.{digits-div, digits-mod}
 use lib.ListN.{length, getD, length-append, List·getD-append}
 use lib.Seq.{getD-append-seam, getD-at, append-snoc}
-use Rattle.text.specs.Text.{digit, decimal, Decimal, readAfter}
+use Rattle.text.specs.Text.{digit, decimal}
 use Rattle.text.proofs.Digits.{by-tens, decimal-digit, decimal-tens}
+
+-- what digits stand for, read from the front, after others that stand for so much
+abbrev pub readAfter : ℕ → List ℕ → ℕ
+readAfter before [] = before
+readAfter before (d ∷ ds) = readAfter (before * 10 + (d - 48)) ds
+
+-- what it is to be a number in decimal: bytes from "0" to "9", at least one, the first of several not "0", that stand for the number
+pub record Decimal (n : ℕ) (bytes : List ℕ) : Type 0 where
+  pub digits : (i : ℕ) → i < length bytes → (48 ≤ getD bytes i 0) × (getD bytes i 0 ≤ 57)
+  pub some : 0 < length bytes
+  pub noLeadingZero : 1 < length bytes → 48 < getD bytes 0 0
+  pub reads : readAfter 0 bytes ≡ n
 
 -- what holds of no bytes, and of one more byte at the end, holds of all
 from-front : (P : List ℕ → Type 0) → P [] → ((l : List ℕ) (d : ℕ) → P l → P (l ++ (d ∷ []))) → (l : List ℕ) → P l

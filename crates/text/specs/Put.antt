@@ -13,15 +13,3 @@ put old at bytes = take at old ++ bytes ++ drop (at + length bytes) old
 pub record Put (old : List ℕ) (at : ℕ) (bytes new : List ℕ) (next : ℕ) : Type 0 where
   pub written : new ≡ put old at bytes
   pub follows : next ≡ at + length bytes
-
--- room for any number of 64 bits: it has at most 20 digits
-abbrev pub numberRoom : ℕ
-numberRoom = 20
-
--- room for a blank and any number of 64 bits
-abbrev pub fieldRoom : ℕ
-fieldRoom = 21
-
--- room for a blank and a number of one byte
-abbrev pub byteRoom : ℕ
-byteRoom = 4

@@ -1,11 +1,9 @@
 -- Document 01, `What "ways" prints`: numbers in decimal, and lines of fields, as bytes.
 -- Assumes nothing.
-use mathlib.Core.Path.{_≡_}
 use mathlib.Core.Bool.{true, false}
 use mathlib.Core.List.{List, [], _∷_, _++_}
-use Prim.Native.Nat.{ℕ, zero, suc, _+_, _-_, _*_, _/_, _%_, _≤_, _<_}
+use Prim.Native.Nat.{ℕ, zero, suc, _+_, _/_, _%_}
 use lib.Dec.{ltb}
-use lib.ListN.{length, getD}
 
 -- the byte that shows a digit: "0" is 48, "9" is 57
 abbrev pub digit : ℕ → ℕ
@@ -20,18 +18,6 @@ digitsWithin (suc most) n = elim (ltb n 10) [ true ↦ digit n ∷ [] | false �
 unfoldable pub decimal : ℕ → List ℕ
 unfolding digitsWithin
 decimal n = digitsWithin (suc n) n
-
--- what digits stand for, read from the front, after others that stand for so much
-abbrev pub readAfter : ℕ → List ℕ → ℕ
-readAfter before [] = before
-readAfter before (d ∷ ds) = readAfter (before * 10 + (d - 48)) ds
-
--- what it is to be a number in decimal: bytes from "0" to "9", at least one, the first of several not "0", that stand for the number
-pub record Decimal (n : ℕ) (bytes : List ℕ) : Type 0 where
-  pub digits : (i : ℕ) → i < length bytes → (48 ≤ getD bytes i 0) × (getD bytes i 0 ≤ 57)
-  pub some : 0 < length bytes
-  pub noLeadingZero : 1 < length bytes → 48 < getD bytes 0 0
-  pub reads : readAfter 0 bytes ≡ n
 
 -- "Fields are parted by one blank."
 abbrev pub blank : ℕ

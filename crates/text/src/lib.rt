@@ -6,7 +6,8 @@ ghost use mathlib.Core.List.{[], _∷_};
 ghost use Prim.Native.Nat.{_+_, _*_, _<_, _≤_};
 ghost use lib.ListN.{length, take};
 ghost use Rattle.text.specs.Text.{newline, decimal, field, fieldsAfter};
-ghost use Rattle.text.specs.Put.{Put, numberRoom, fieldRoom, byteRoom};
+ghost use Rattle.text.specs.Put.{Put};
+ghost use Rattle.text.specs.Inner.{numberRoom, fieldRoom, byteRoom};
 
 const BLANK: u8 = 32;
 

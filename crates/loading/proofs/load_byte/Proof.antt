@@ -10,10 +10,10 @@ use Rattle.loading.proofs.load_byte.Statement.{statement}
 use Rattle.loading.proofs.load_byte.Tie as tie
 
 abbrev Inv-loop : tie.InvT-loop
-Inv-loop work₀ width height map row column count byte first i₀ work i = BitsLoaded (mapOf width height map) work₀ column row count i work
+Inv-loop work₀ width height map fours row column count byte first i₀ work i = BitsLoaded (mapOf width height map) work₀ column row count i work
 
 abbrev μ-loop : tie.MeasureT-loop
-μ-loop work₀ width height map row column count byte first i₀ work i = count - i
+μ-loop work₀ width height map fours row column count byte first i₀ work i = count - i
 
 add-byte : tie.Need-add-byte Inv-loop μ-loop
 add-byte c = search needs
@@ -40,41 +40,40 @@ add-first-3 : tie.Need-add-first-3 Inv-loop μ-loop
 add-first-3 c = search needs
 
 loop-holds : tie.Need-loop-holds Inv-loop μ-loop
-loop-holds c = bits-none _ _ _ _ _ (c .before .before .before .pre .0) (c .before .before .before .pre .1)
-
-open-bit-requires : tie.Need-open-bit-requires Inv-loop μ-loop
-open-bit-requires c κs = omega (arith, c .loop-test .taken, c .before .before .before .before .before .pre .0 .few)
+loop-holds c = bits-none _ _ _ _ _ (c .before .before .before .pre .0) (c .before .before .before .pre .1 .0)
 
 number-of-requires : tie.Need-number-of-requires Inv-loop μ-loop
-number-of-requires c κs = omega (arith, c .open-bit .ensures)
+number-of-requires c κs =
+    let p = c .before .before .before .before .before .pre in
+    (omega (arith, c .loop-test .taken, p .0 .few), p .1 .1)
 
 add-work : tie.Need-add-work Inv-loop μ-loop
 add-work c =
-    let r = c .before .before .before .before .before .before .before .pre .0 in
-    omega (arith, c .before .before .loop-test .taken, r .few, r .row, r .column, r .sound .wide, r .sound .high)
+    let r = c .before .before .before .before .before .before .pre .0 in
+    omega (arith, c .before .loop-test .taken, r .few, r .row, r .column, r .sound .wide, r .sound .high)
 
 mul-work : tie.Need-mul-work Inv-loop μ-loop
 mul-work c =
-    let r = c .before .before .before .before .before .before .before .pre .0 in
-    omega (arith, c .before .before .loop-test .taken, r .few, r .row, r .column, r .sound .wide, r .sound .high)
+    let r = c .before .before .before .before .before .before .pre .0 in
+    omega (arith, c .before .loop-test .taken, r .few, r .row, r .column, r .sound .wide, r .sound .high)
 
 slice-write-work : tie.Need-slice-write-work Inv-loop μ-loop
 slice-write-work c =
-    let r = c .before .before .before .before .before .before .before .pre .0 in
-    let i = c .before .before .before .loop .inv .cells in
-    omega (arith, c .before .before .loop-test .taken, r .inside, r .row, r .sound .wide, i .prefix .tall .rows)
+    let r = c .before .before .before .before .before .before .pre .0 in
+    let i = c .before .before .loop .inv .cells in
+    omega (arith, c .before .loop-test .taken, r .inside, r .row, r .sound .wide, i .prefix .tall .rows)
 
 add-i : tie.Need-add-i Inv-loop μ-loop
-add-i c = omega (arith, c .before .before .loop-test .taken)
+add-i c = omega (arith, c .before .loop-test .taken)
 
 loop-less : tie.Need-loop-less Inv-loop μ-loop
-loop-less c = omega (arith, c .before .before .loop-test .taken)
+loop-less c = omega (arith, c .before .loop-test .taken)
 
 loop-again : tie.Need-loop-again Inv-loop μ-loop
 loop-again c =
-    let r = c .before .before .before .before .before .before .before .pre .0 in
-    let turn = c .before .before in
-    bits-more _ (r .sound) _ _ _ _ _ _ _ _ r (turn .before .loop .inv) (turn .loop-test .taken) (c .before .open-bit .ensures) (c .number-of .ensures)
+    let r = c .before .before .before .before .before .before .pre .0 in
+    let turn = c .before in
+    bits-more _ (r .sound) _ _ _ _ _ _ _ r (turn .before .loop .inv) (turn .loop-test .taken) (c .number-of .ensures)
 
 same-length : tie.Need-same-length Inv-loop μ-loop
 same-length c = c .before .loop .inv .cells .size
@@ -97,7 +96,6 @@ load-byte-spec =
     add-first-2
     add-first-3
     loop-holds
-    open-bit-requires
     number-of-requires
     add-work
     mul-work

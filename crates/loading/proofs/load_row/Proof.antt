@@ -11,13 +11,13 @@ use Rattle.loading.proofs.load_row.Statement.{statement}
 use Rattle.loading.proofs.load_row.Tie as tie
 
 abbrev Inv-loop : tie.InvT-loop
-Inv-loop work₀ width height map row column₀ work column = BytesLoaded (mapOf width height map) work₀ column row work
+Inv-loop work₀ width height map fours row column₀ work column = BytesLoaded (mapOf width height map) work₀ column row work
 
 abbrev μ-loop : tie.MeasureT-loop
-μ-loop work₀ width height map row column₀ work column = width - column
+μ-loop work₀ width height map fours row column₀ work column = width - column
 
 loop-holds : tie.Need-loop-holds Inv-loop μ-loop
-loop-holds c = record { aligned = refl; cells = record { inside = omega arith; size = refl; prefix = c .before .before .pre .1 .1 } }
+loop-holds c = record { aligned = refl; cells = record { inside = omega arith; size = refl; prefix = c .before .before .pre .1 .1 .0 } }
 
 add-loop : tie.Need-add-loop Inv-loop μ-loop
 add-loop c = omega (arith, c .loop .inv .cells .inside, c .before .before .before .pre .0 .wide)
@@ -28,7 +28,7 @@ load-byte-requires c κs =
     let i = c .before .before .loop .inv in
     let whole = c .before .loop-test .taken in (
       record { sound = p .0; row = p .1 .0; aligned = i .aligned; column = omega (arith, whole); few = omega arith; inside = whole },
-      i .cells .prefix,
+      (i .cells .prefix, p .1 .1 .1),
     )
 
 add-column : tie.Need-add-column Inv-loop μ-loop
@@ -64,7 +64,7 @@ load-byte-requires-2 c κs =
         few = omega (arith, c .before .before .loop-test .left);
         inside = omega (arith, some);
       },
-      i .cells .prefix,
+      (i .cells .prefix, p .1 .1 .1),
     )
 
 same-length : tie.Need-same-length Inv-loop μ-loop

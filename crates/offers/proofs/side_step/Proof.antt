@@ -1,13 +1,13 @@
--- `offers::side_step` meets its contract: the heading leads to a place of the array, and the number is its own remainder.
+-- `offers::side_step` meets its contract: the heading leads to a place of the array, and the number counts, so a cell that was not reached now is.
 -- Assumes nothing.
 use mathlib.Core.Path.{_≡_, subst}
 use mathlib.Core.List.{List}
 use Prim.Native.Nat.{ℕ}
-use native.Mathlib.Nat.{mod-eq-of-lt}
 use native.Mathlib.Omega.{arith}
 use borrow.Author.Needs.{needs}
 use Rattle.offers.specs.Work.{at, target}
 use Rattle.offers.specs.Taken.{OfferMade, MaskRead, SideStep}
+use Rattle.offers.proofs.Changed.{lowered-made}
 use Rattle.offers.proofs.Turns.{in-work}
 use Rattle.offers.proofs.side_step.Statement.{statement}
 use Rattle.offers.proofs.side_step.Tie as tie
@@ -15,24 +15,20 @@ use Rattle.offers.proofs.side_step.Tie as tie
 place-of-requires : tie.Need-place-of-requires
 place-of-requires c κs = search needs
 
-mul-mask-of : tie.Need-mul-mask-of
-mul-mask-of c =
-    let p = c .before .before .before .pre in
-    omega (arith, c .place-of .ensures, in-work _ _ _ (p .1 .1 .0) (p .0), p .1 .0 .few)
+lower-requires : tie.Need-lower-requires
+lower-requires c κs =
+    let to = c .before .before in
+    let p = to .before .before .before .pre in
+    (omega (arith, to .place-of .ensures, in-work _ _ _ (p .1 .1 .0) (p .0)), p .1 .0)
 
-slice-read-mask-of : tie.Need-slice-read-mask-of
-slice-read-mask-of c =
-    let p = c .before .before .before .before .pre in
-    omega (arith, c .before .place-of .ensures, in-work _ _ _ (p .1 .1 .0) (p .0))
+cast-t14 : tie.Need-cast-t14
+cast-t14 c = search needs
+
+add-t15 : tie.Need-add-t15
+add-t15 c = search needs
 
 mask-of-requires : tie.Need-mask-of-requires
 mask-of-requires c κs = search needs
-
-offer-requires : tie.Need-offer-requires
-offer-requires c κs =
-    let to = c .before .before .before .before in
-    let p = to .before .before .before .pre in
-    (omega (arith, to .place-of .ensures, in-work _ _ _ (p .1 .1 .0) (p .0)), p .1 .0)
 
 same-length : tie.Need-same-length
 same-length c = search needs
@@ -40,30 +36,32 @@ same-length c = search needs
 same-length-2 : tie.Need-same-length-2
 same-length-2 c = search needs
 
--- the place and the number by the names that the contract has for them
-named : (p h a n c t : ℕ) (x q x′ q′ : List ℕ) (t′ r : ℕ) → a ≡ target p h → c ≡ n → OfferMade a c t x q x′ q′ t′ → MaskRead (at x a) r
+-- the place and the number before by the names that the contract has for them
+named : (p h a n v t : ℕ) (x q x′ q′ : List ℕ) (t′ r : ℕ) → a ≡ target p h → v ≡ at x a → OfferMade a n t x q x′ q′ t′ → MaskRead v r
     → SideStep p h n t x q x′ q′ t′ r
-named p h a n c t x q x′ q′ t′ r e f made m = record {
-  offer = subst (λ (z : ℕ). OfferMade z n t x q x′ q′ t′) e (subst (λ (v : ℕ). OfferMade a v t x q x′ q′ t′) f made);
-  mask = subst (λ (z : ℕ). MaskRead (at x z) r) e m;
+named p h a n v t x q x′ q′ t′ r e f made m = record {
+  offer = subst (λ (z : ℕ). OfferMade z n t x q x′ q′ t′) e made;
+  mask = subst (λ (z : ℕ). MaskRead (at x z) r) e (subst (λ (k : ℕ). MaskRead k r) f m);
 }
 
 returns : tie.Need-returns
 returns c =
-    let call = c .before .before .before .before in
-    let read = call .before .before .before in
-    let to = read .before .before in
-    named _ _ _ _ _ _ _ _ _ _ _ _ (to .place-of .ensures) (mod-eq-of-lt (to .before .before .before .pre .1 .1 .1)) (call .offer .ensures) (read .mask-of .ensures)
+    let call = c .before .before .before .before .before in
+    let to = call .before .before .before in
+    let p = to .before .before .before .pre .1 in
+    let l = call .lower .ensures in
+    named _ _ _ _ _ _ _ _ _ _ _ _ (to .place-of .ensures) (l .before)
+    (lowered-made _ _ _ _ _ _ _ _ _ (p .0) l (omega (arith, p .1 .1))) (c .mask-of .ensures)
 
 pub side-step-spec : {M : Type 1} → statement M
 side-step-spec =
     tie.close
     (tie.spec
     place-of-requires
-    mul-mask-of
-    slice-read-mask-of
+    lower-requires
+    cast-t14
+    add-t15
     mask-of-requires
-    offer-requires
     same-length
     same-length-2
     returns)

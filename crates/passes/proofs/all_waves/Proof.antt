@@ -18,12 +18,12 @@ use Rattle.passes.proofs.all_waves.Statement.{statement}
 use Rattle.passes.proofs.all_waves.Tie as tie
 
 abbrev Inv-loop : tie.InvT-loop
-Inv-loop work₀ queue₀ goal mid₀ tail₀ limit₀ work queue mid tail limit =
-    ((x q : List ℕ) → Loaded x q goal → TakenLeft goal 0 x q work₀ queue₀ tail₀ → Between x goal mid tail limit work queue)
+Inv-loop work₀ queue₀ goal mid₀ fresh₀ tail₀ limit₀ work queue mid fresh tail limit =
+    ((x q : List ℕ) → Loaded x q goal → TakenLeft goal 0 x q work₀ queue₀ tail₀ → Between x goal mid fresh tail limit work queue)
     × (length queue ≡ length queue₀)
 
 abbrev μ-loop : tie.MeasureT-loop
-μ-loop work₀ queue₀ goal mid₀ tail₀ limit₀ work queue mid tail limit = length queue₀ - mid
+μ-loop work₀ queue₀ goal mid₀ fresh₀ tail₀ limit₀ work queue mid fresh tail limit = length queue₀ - mid
 
 cell-steps-requires : tie.Need-cell-steps-requires Inv-loop μ-loop
 cell-steps-requires c κs =
@@ -41,32 +41,32 @@ between :
     (c : tie.At-loop Inv-loop μ-loop)
     → let a = c .before .before .before .before .before .before .before .before .before .before .args in
     let l = c .loop in
-    Between (a .work .now) (a .goal) (l .mid) (l .tail) (l .limit) (l .work) (l .queue)
+    Between (a .work .now) (a .goal) (l .mid) (l .fresh) (l .tail) (l .limit) (l .work) (l .queue)
 between c = c .loop .inv .0 _ _ (c .before .before .before .before .before .before .before .before .before .before .pre) (c .before .before .before .before .before .cell-steps .ensures)
 
 one-wave-requires : tie.Need-one-wave-requires Inv-loop μ-loop
 one-wave-requires c κs =
     let turn = c .before .before in
-    record { wave = _; ends = refl; ready = pass-ready _ _ _ _ _ _ _ (between (turn .before)) (turn .loop-test .taken) }
+    record { wave = _; ends = refl; ready = pass-ready _ _ _ _ _ _ _ _ (between (turn .before)) (turn .loop-test .taken) }
 
 add-limit : tie.Need-add-limit Inv-loop μ-loop
 add-limit c =
     let turn = c .before .before .before .before .before .before .before in
-    omega (arith, small _ _ _ _ _ _ _ (between (turn .before)) (turn .loop-test .taken))
+    omega (arith, small _ _ _ _ _ _ _ _ (between (turn .before)) (turn .loop-test .taken))
 
 loop-less : tie.Need-loop-less Inv-loop μ-loop
 loop-less c =
     let turn = c .before .before .before .before .before .before .before in
     let g = between (turn .before) in
     let m = turn .loop-test .taken in
-    omega (arith, grows _ _ _ _ _ _ _ g m _ _ _ _ (c .before .before .before .before .one-wave .ensures), g .going .room .enough, turn .before .loop .inv .1, m)
+    omega (arith, grows _ _ _ _ _ _ _ _ g m _ _ _ _ (c .before .before .before .before .one-wave .ensures), g .going .room .enough, turn .before .loop .inv .1, m)
 
 loop-again : tie.Need-loop-again Inv-loop μ-loop
 loop-again c =
     let turn = c .before .before .before .before .before .before .before in
     let call = c .before .before .before .before .one-wave in
     let i = turn .before .loop .inv in (
-      λ x q l s. next _ _ _ _ _ _ _ (i .0 x q l s) (turn .loop-test .taken) _ _ _ _ (call .ensures),
+      λ x q l s. next _ _ _ _ _ _ _ _ (i .0 x q l s) (turn .loop-test .taken) _ _ _ _ (call .ensures),
       omega (arith, call .kept .1, i .1),
     )
 
@@ -77,7 +77,7 @@ same-length-2 : tie.Need-same-length-2 Inv-loop μ-loop
 same-length-2 c = omega (arith, c .before .loop .inv .1, c .before .before .before .before .before .before .cell-steps .kept .1)
 
 returns : tie.Need-returns Inv-loop μ-loop
-returns c = solved _ _ _ _ _ _ _ (between (c .before)) (c .loop-test .left)
+returns c = solved _ _ _ _ _ _ _ _ (between (c .before)) (c .loop-test .left)
 
 pub all-waves-spec : {M : Type 1} → statement M
 all-waves-spec =

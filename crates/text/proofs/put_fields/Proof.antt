@@ -6,7 +6,8 @@ use borrow.Author.Needs.{needs}
 use native.Mathlib.Omega.{arith}
 use lib.ListN.{length, take}
 use Rattle.text.specs.Text.{field, fieldsAfter}
-use Rattle.text.specs.Put.{Put, byteRoom}
+use Rattle.text.specs.Put.{Put}
+use Rattle.text.specs.Inner.{byteRoom}
 use Rattle.text.proofs.Fields.{one-field-more, byte-fits}
 use Rattle.text.proofs.Puts.{none-put, one-more}
 use Rattle.text.proofs.put_fields.Statement.{statement}

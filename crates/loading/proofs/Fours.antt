@@ -1,0 +1,44 @@
+-- The table of the numbers of four cells: that a table is one, by one test that is computed over all its entries; and the bits of a byte by its
+-- four-bit parts.
+-- Assumes nothing.
+use mathlib.Core.Path.{_≡_, ap, _∙_}
+use mathlib.Core.Bool.{Bool, true}
+use mathlib.Core.List.{List, []}
+use Prim.Native.Nat.{ℕ, _-_, _*_, _/_, _%_, _<_, _^_}
+use native.Mathlib.Omega.{arith}
+use lib.ListN.{getD, length}
+use lib.Dec.{eqb}
+use borrow.Author.Tests.{eqb-true}
+use Rattle.floor.specs.Floor.{bit, both}
+use Rattle.floor.proofs.Entries.{every, entry}
+use Rattle.floor.proofs.Joined.{both-true}
+use Rattle.steps.proofs.Grid.{eight}
+use Rattle.offers.specs.Work.{unreached, at}
+use Rattle.loading.specs.Load.{Fours}
+
+-- the number of cell k is right, and those of all four, whose bits are q
+abbrev right : (q k v : ℕ) → Bool
+right q k v = eqb v ((1 - bit k q) * unreached)
+
+abbrev pub fourRight : ℕ → List ℕ → Bool
+fourRight q row = both (eqb (length row) 4) (every (right q) row)
+
+pub fours-of : (t : List (List ℕ)) → length t ≡ 16 → every fourRight t ≡ true → Fours t
+fours-of t n e = record {
+  entry = λ q k a b.
+      let row = getD t q [] in
+      let (size, all) = both-true (eqb (length row) 4) (every (right q) row) (entry fourRight t [] e q (omega arith)) in
+      eqb-true _ _ (entry (right q) row 0 all k (omega (arith, eqb-true (length row) 4 size)));
+}
+
+-- a bit of a byte is one of four
+bit-of-four : (b : ℕ) → b < 256 → (k : ℕ) → k < 8 → bit (k % 4) (b / 2 ^ (k / 4 * 4) % 16) ≡ bit k b
+bit-of-four b h =
+    eight (λ k. bit (k % 4) (b / 2 ^ (k / 4 * 4) % 16) ≡ bit k b) (omega arith) (omega arith) (omega arith) (omega arith) (omega arith) (omega arith)
+    (omega arith) (omega arith)
+
+-- the number of a byte's cell stands in the table
+pub number-read : (t : List (List ℕ)) → Fours t → (b : ℕ) → b < 256 → (k : ℕ) → k < 8
+    → at (getD t (b / 2 ^ (k / 4 * 4) % 16) []) (k % 4) ≡ (1 - bit k b) * unreached
+number-read t f b h k l =
+    f .entry (b / 2 ^ (k / 4 * 4) % 16) (k % 4) (omega arith) (omega arith) ∙ ap (λ (d : ℕ). (1 - d) * unreached) (bit-of-four b h k l)
