@@ -8,8 +8,9 @@ using u8 = std::uint8_t;
 using u32 = std::uint32_t;
 using std::size_t;
 
-// A number is WIDE * q + r where 13860 * q + r = 13860 * (straight + 1) + 19601 * diagonal, with r below 13860.
-constexpr u32 UNREACHED = 2147483648u, WIDE = 16384, EARLY = 22125, LATE = 24649, MARK = 4294967295u;
+// A number is WIDE * q + r + 73 where 13860 * q + r = 13860 * (straight + 1) + 19601 * diagonal, with r below 13860. It is late, r at least 8119,
+// if its bit of 8192 is set.
+constexpr u32 UNREACHED = 2147483648u, WIDE = 16384, HALF = 8192, GOAL = WIDE + 73, EARLY = 22125, LATE = 24649, MARK = 4294967295u;
 constexpr size_t STRIDE = 130;
 
 // The lesser of two numbers.
@@ -43,7 +44,7 @@ inline Side side_step(u32 *__restrict work, u32 *__restrict queue, size_t tail, 
 
 // All steps out of a cell.
 inline size_t cell_steps(u32 *__restrict work, u32 *__restrict queue, size_t tail, size_t from) {
-    const u32 number = work[from], straight = number + WIDE, diagonal = number + (number % WIDE < 8119 ? EARLY : LATE);
+    const u32 number = work[from], straight = number + WIDE, diagonal = number + (number / HALF % 2 == 0 ? EARLY : LATE);
     const Side north = side_step(work, queue, tail, from, 0, straight);
     u32 side = north.mask;
     tail = north.tail;
@@ -105,9 +106,9 @@ void load(u32 *__restrict work, const Floor &floor) {
 
 inline u32 entry_of(u32 number) {
     if (number == 0 || number >= UNREACHED) return MARK;
-    const u32 wave = number / WIDE, rest = number % WIDE, turns = rest * 27145 / 65536, left = rest * 5741 - turns * 13860;
+    const u32 above = number - GOAL, rest = above % WIDE, turns = rest * 27145 / 65536, left = rest * 5741 - turns * 13860;
     const u32 more = left < 13860 ? 0 : 1;
-    return (wave - 1 + 19601 * (turns + more) - 8119 * rest) * 65536 + (left - more * 13860);
+    return (above / WIDE + 19601 * (turns + more) - 8119 * rest) * 65536 + (left - more * 13860);
 }
 
 void store(const u32 *__restrict work, const Floor &floor, u32 *__restrict table) {
@@ -119,7 +120,7 @@ void store(const u32 *__restrict work, const Floor &floor, u32 *__restrict table
 void fill_in(u32 *__restrict work, const Floor &floor, u32 *__restrict table) {
     load(work, floor);
     const size_t goal = (floor.goal / floor.width + 1) * STRIDE + floor.goal % floor.width + 1;
-    work[goal] = WIDE;
+    work[goal] = GOAL;
     all_waves(work, table, goal);
     store(work, floor, table);
 }

@@ -1,32 +1,19 @@
 -- What a step makes of a number, and how far it leads.
 -- Assumes nothing.
 use mathlib.Core.Path.{_≡_, refl, ap}
-use Prim.Native.Nat.{ℕ, zero, suc, _+_, _-_, _*_, _%_, _≤_, _<_}
+use Prim.Native.Nat.{ℕ, zero, suc, _+_, _*_, _%_, _≤_, _<_}
 use native.Mathlib.Omega.{arith}
-use Rattle.lengths.proofs.Keys.{straightKey}
-use Rattle.offers.specs.Work.{span, gap, extra, lateOf, steppedBy, stepped}
-
--- the remainder from which on a cell is late
-abbrev lateFrom : ℕ
-lateFrom = straightKey - extra
+use Rattle.offers.specs.Work.{span, half, gap, extra, lateOf, steppedBy, stepped}
 
 pub late-bit : (v : ℕ) → lateOf v ≤ 1
 unfolding lateOf
 late-bit v = omega arith
 
-pub early-is : (v : ℕ) → v % span < lateFrom → lateOf v ≡ 0
-unfolding lateOf
-early-is v b = omega arith
-
-pub late-is : (v : ℕ) → lateFrom ≤ v % span → lateOf v ≡ 1
-unfolding lateOf
-late-is v b = omega arith
-
-pub late-rest : (v : ℕ) → lateOf v ≡ 1 → lateFrom ≤ v % span
+pub late-rest : (v : ℕ) → lateOf v ≡ 1 → half ≤ v % span
 unfolding lateOf
 late-rest v e = omega arith
 
-pub early-rest : (v : ℕ) → lateOf v ≡ 0 → v % span < lateFrom
+pub early-rest : (v : ℕ) → lateOf v ≡ 0 → v % span < half
 unfolding lateOf
 early-rest v e = omega arith
 

@@ -8,7 +8,7 @@ use native.Mathlib.Omega.{arith}
 use native.Mathlib.Decide.{ℕ-discrete}
 use lib.ListN.{getD, length, set, length-set}
 use lib.Seq.{getD-set-same, getD-set-other}
-use Rattle.offers.specs.Work.{unreached, span, stepped, highest, at, WorkStep, Room}
+use Rattle.offers.specs.Work.{unreached, span, atGoal, stepped, highest, at, WorkStep, Room}
 use Rattle.offers.specs.Wave.{Wave, Support, Listed, Next, Going, Falls}
 use Rattle.offers.specs.Taken.{This}
 use Rattle.offers.proofs.Numbers.{stretch}
@@ -62,6 +62,14 @@ module _ (w : Wave) (x q : List ℕ) (t a : ℕ) (g : Going w x q t) where
 
     high : cand < w .limit + 2 * span
     high = omega (arith, cell .near, stretch h (at x p) .most)
+
+    -- and past the goal's number: p is the goal, or was reached by a step itself
+    past-goal : atGoal < cand
+    past-goal = by (g .support p (cell .free) (omega (arith, cell .near)))
+      where
+        by : (p ≡ w .goal) ⊎ Support w x p (at x p) → atGoal < cand
+        by (inl e) = omega (arith, ap (at x) e, g .start, stretch h (at x p) .least)
+        by (inr u) = omega (arith, u .sum, stretch (u .heading) (at x (u .cell)) .least, stretch h (at x p) .least)
 
     in-x : a < length x
     in-x = omega (arith, g .border a (s .to), g .cells)
@@ -130,7 +138,7 @@ module _ (w : Wave) (x q : List ℕ) (t a : ℕ) (g : Going w x q t) where
       free = new (λ i v. 0 < at (w .floor) i → 0 < v) (λ o. omega (arith, stretch h (at x p))) (λ i e. g .free i);
       shut = new (λ i v. at (w .floor) i ≡ 0 → v ≡ 0) (λ o. absurd (omega (arith, s .to))) (λ i e. g .shut i);
       start =
-          new (λ i v. i ≡ w .goal → v ≡ span) (λ e. absurd (omega (arith, ap (at x) e, g .start, stretch h (at x p))))
+          new (λ i v. i ≡ w .goal → v ≡ atGoal) (λ e. absurd (omega (arith, ap (at x) e, g .start, past-goal)))
           (λ i e m. ap (at x) m ∙ g .start) (w .goal) refl;
       below = new (λ i v. v < unreached → v < w .limit + 2 * span) (λ o. high) (λ i e. g .below i);
       support = supports;

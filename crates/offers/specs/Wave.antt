@@ -6,7 +6,7 @@ use mathlib.Core.Logic.{_⊎_}
 use mathlib.Core.List.{List}
 use Prim.Native.Nat.{ℕ, _+_, _*_, _≤_, _<_}
 use lib.ListN.{getD, length}
-use Rattle.offers.specs.Work.{unreached, span, stepped, at, Inside, WorkStep, Room}
+use Rattle.offers.specs.Work.{unreached, span, atGoal, stepped, at, Inside, WorkStep, Room}
 
 -- a wave: the floor as it was loaded, and the goal's place; the work array and the end of the queue when the wave began; and the number at
 -- which it ends
@@ -58,7 +58,7 @@ pub record Going (w : Wave) (x q : List ℕ) (t : ℕ) : Type 0 where
   pub free : (z : ℕ) → 0 < at (w .floor) z → 0 < at x z
   pub shut : (z : ℕ) → at (w .floor) z ≡ 0 → at x z ≡ 0
   -- the goal has length (0, 0)
-  pub start : at x (w .goal) ≡ span
+  pub start : at x (w .goal) ≡ atGoal
   -- everything reached lies below the end of the wave after the next
   pub below : (z : ℕ) → at x z < unreached → at x z < w .limit + 2 * span
   -- every reached cell but the goal has a settled neighbour whose number and the step make its own

@@ -1,6 +1,6 @@
 -- The work array: a number for each cell of the floor and of a border of blocked cells around it. 0: blocked, or off the floor. `unreached`:
 -- open, and not reached. Else the length found: with one straight step more its key is 13860 q + r, r below 13860, and the number is
--- 16384 q + r. So a number's quotient by 16384 is its wave and its remainder is its place in the wave, and no remainder is above 13859.
+-- 16384 q + r + 73. So a number's quotient by 16384 is its wave and its remainder is its place in the wave, from 73 up to 13932.
 -- Beside it a queue of the cells that were reached. In all files x is a work array, q a queue and t its end.
 -- Assumes nothing.
 use mathlib.Core.Path.{_≡_}
@@ -34,9 +34,21 @@ gap = span - straightKey
 abbrev pub extra : ℕ
 extra = diagonalKey - straightKey
 
--- 1 for a late cell, whose diagonal steps end past the next wave: its remainder and the extra are 13860 or more. Else 0
+-- half a wave
+abbrev pub half : ℕ
+half = 8192
+
+-- what every remainder has more: with it, a remainder that makes 13860 or more with the extra is half a wave or more
+abbrev pub raise : ℕ
+raise = half - (straightKey - extra)
+
+-- the goal's number: one straight step, and the raise
+abbrev pub atGoal : ℕ
+atGoal = span + raise
+
+-- 1 for a late cell, whose diagonal steps end past the next wave: its remainder is half a wave or more. Else 0
 unfoldable pub lateOf : ℕ → ℕ
-lateOf v = (v % span + extra + gap) / span
+lateOf v = v / half % 2
 
 -- what a straight step, with parity 0, and a diagonal one make of the number v: one wave more, and the extra, and from a late cell the gap
 abbrev pub steppedBy : ℕ → ℕ → ℕ

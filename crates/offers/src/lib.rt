@@ -2,7 +2,8 @@
 // The work array has a number for each cell of the floor and of a border of blocked cells around it: the cell in column c and row r stands
 // at (r + 1) * 130 + c + 1. 0: blocked, or off the floor. UNREACHED: open, and not reached. Else the length found: lengths are ordered by
 // their keys, 13860 * straight + 19601 * diagonal; with one straight step more a key is 13860 * q + r, r < 13860, and the number is
-// 16384 * q + r. So number / 16384 is the wave that reaches the cell, and to take a number apart needs no division but by powers of two.
+// 16384 * q + r + 73. So number / 16384 is the wave that reaches the cell, to take a number apart needs no division but by powers of two, and
+// whether a diagonal step leads past the next wave is one bit of the number: r + 5741 >= 13860 is r + 73 >= 8192.
 // A step out of a cell offers the cell that it leads to a number, its own and what the step adds; the lesser number stays.
 ghost use mathlib.Core.Path.{_≡_};
 ghost use Prim.Native.Nat.{_+_, _-_, _/_, _<_, _≤_, min};
@@ -16,13 +17,20 @@ pub const UNREACHED: u32 = 2147483648;
 // What a straight step adds to a number: one wave.
 pub const STRAIGHT: u32 = 16384;
 
+// What every remainder has more, so that the late ones are those from half a wave on.
+const RAISE: u32 = 73;
+
+// The goal's number: length (0, 0), one straight step, and the raise.
+pub const GOAL: u32 = STRAIGHT + RAISE;
+
 // What a diagonal step adds, which weighs 19601 - 13860 = 5741 more than a straight one: 16384 + 5741 out of an early cell. Out of a late one,
-// whose remainder is 13860 - 5741 or more, the remainder would be 13860 or more: it has 13860 less, and the number one wave more.
+// whose remainder is 13860 - 5741 + 73 = 8192 or more, the remainder would be 13860 + 73 or more: it has 13860 less, and the number one wave
+// more.
 const EARLY: u32 = 22125;
 
 const LATE: u32 = 24649;
 
-const LATE_FROM: u32 = 8119;
+const HALF: u32 = 8192;
 
 // How far apart the rows of the work array are: 128 cells and the border.
 pub const STRIDE: usize = 130;
@@ -142,12 +150,12 @@ fn past(number: u32, side: u32, other: u32) -> u32
     number | (side | other)
 }
 
-// What a diagonal step makes of a number.
+// What a diagonal step makes of a number. Whether it is late is one bit.
 fn diagonal_of(number: u32) -> u32
     requires { ⌜ number < highest ⌝ }
     ensures { λ r. ⌜ r ≡ stepped 1 number ⌝ }
 {
-    if number % STRAIGHT < LATE_FROM {
+    if number / HALF % 2 == 0 {
         number + EARLY
     } else {
         number + LATE

@@ -6,7 +6,7 @@ use mathlib.Core.List.{List}
 use Prim.Native.Nat.{ℕ, _+_, _*_, _≤_, _<_}
 use native.Mathlib.Omega.{arith}
 use native.Mathlib.Decide.{decLe, ℕ-discrete}
-use Rattle.offers.specs.Work.{unreached, span, stepped, at, Inside, WorkStep, Room}
+use Rattle.offers.specs.Work.{unreached, span, atGoal, stepped, at, Inside, WorkStep, Room}
 use Rattle.offers.specs.Wave.{Wave, Listed, Going}
 use Rattle.offers.specs.Taken.{Offered, TakenLeft}
 use Rattle.passes.specs.Solved.{Loaded}
@@ -30,7 +30,7 @@ module _ (x q : List ℕ) (goal : ℕ) (l : Loaded x q goal) where
       by (inr (inl e)) = absurd (omega arith)
       by (inr (inr e)) = absurd (omega arith)
 
-  value : (z : ℕ) → 0 < at x z → at x z < unreached → at x z ≡ span
+  value : (z : ℕ) → 0 < at x z → at x z < unreached → at x z ≡ atGoal
   value z o f = ap (at x) (only z o f) ∙ l .start
 
   kind : (z : ℕ) → at x z ≤ unreached
@@ -93,7 +93,7 @@ module _ (x q : List ℕ) (goal : ℕ) (l : Loaded x q goal) where
     relaxed : (h a b : ℕ) → WorkStep x h a b → at x′ a < 2 * span → at x′ b ≤ stepped h (at x′ a)
     relaxed h a b s k =
         let e = first a (o .going .free a (s .from)) k in
-        let f : stepped h (at x′ a) ≡ stepped h span = ap (stepped h) (ap (at x′) e ∙ o .going .start) in
+        let f : stepped h (at x′ a) ≡ stepped h atGoal = ap (stepped h) (ap (at x′) e ∙ o .going .start) in
         let v = ap (stepped h) (l .start) in
         omega (arith, o .done h b (s .heading) (subst (λ (z : ℕ). WorkStep x h z b) e s))
 

@@ -6,7 +6,7 @@ use mathlib.Core.List.{List}
 use Prim.Native.Nat.{ℕ, _+_, _-_, _*_, _≤_, _<_}
 use native.Mathlib.Omega.{arith}
 use lib.ListN.{getD}
-use Rattle.offers.specs.Work.{unreached, span, at}
+use Rattle.offers.specs.Work.{unreached, span, atGoal, at}
 use Rattle.offers.specs.Wave.{Wave, Support, Listed, Reached, Going}
 use Rattle.passes.specs.Pass.{Due}
 
@@ -33,6 +33,6 @@ pub record Between (floor : List ℕ) (goal mid fresh tail limit : ℕ) (x q : L
   -- and of those q[mid..fresh], which waited in the wave before, do not wait again
   pub waited : (i : ℕ) → mid ≤ i → i < fresh → at x (getD q i 0) < limit
   -- the goal lies before the wave's end
-  pub start : span < limit
+  pub start : atGoal < limit
   -- no wave was empty
   pub count : limit ≤ span * (mid + 3)

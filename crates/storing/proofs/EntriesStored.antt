@@ -10,8 +10,8 @@ use lib.ListN.{length, set, length-set}
 use Rattle.lengths.specs.declared.Length.{Length}
 use Rattle.lengths.proofs.Keys.{straightKey, diagonalKey, key, straightOf, diagonalOf, pair-back}
 use Rattle.entries.specs.Entry.{mark, pack}
-use Rattle.offers.specs.Work.{unreached, span, at, spot}
-use Rattle.storing.specs.Store.{keyOf, entryOf, Keyed, Readable, Stored}
+use Rattle.offers.specs.Work.{unreached, span, raise, atGoal, at, spot}
+use Rattle.storing.specs.Store.{keyOf, goalKey, entryOf, Proper, Keyed, Readable, Stored}
 use Rattle.offers.proofs.Changed.{each}
 use Rattle.storing.proofs.NumberKinds.{Kind, shut, waits, reached, kind}
 use Rattle.storing.proofs.Kept.{CellsStored, RowsStored}
@@ -33,10 +33,10 @@ packed-waits v e = by (kind v)
     by (reached o f p) = absurd (omega arith)
 
 pub packed-length : (v : ℕ) → v ≢ 0 → v < unreached
-    → straightOf (keyOf v - straightKey) * 65536 + diagonalOf (keyOf v - straightKey) ≡ pack (entryOf v)
+    → straightOf (keyOf v - goalKey) * 65536 + diagonalOf (keyOf v - goalKey) ≡ pack (entryOf v)
 packed-length v e f = by (kind v)
   where
-    by : Kind v → straightOf (keyOf v - straightKey) * 65536 + diagonalOf (keyOf v - straightKey) ≡ pack (entryOf v)
+    by : Kind v → straightOf (keyOf v - goalKey) * 65536 + diagonalOf (keyOf v - goalKey) ≡ pack (entryOf v)
     by (shut d p) = absurd (e d)
     by (waits d p) = absurd (omega arith)
     by (reached o g p) = ap pack (sym p)
@@ -68,19 +68,37 @@ balance : (n r t d s : ℕ) → straightKey * n + r ≡ straightKey * s + diagon
     → n + diagonalKey * t ≡ s + 8119 * r
 balance n r t d s e f = omega arith
 
+-- how far a number is above the goal's, as the code takes it apart: one wave less, and the remainder without the raise
+abbrev wave : ℕ → ℕ
+wave v = (v - atGoal) / span
+
+abbrev rest : ℕ → ℕ
+rest v = (v - atGoal) % span
+
+pub record Above (v : ℕ) : Type 0 where
+  pub from : atGoal ≤ v
+  pub wave : v / span ≡ wave v + 1
+  pub rest : v % span ≡ rest v + raise
+
+apart : (v : ℕ) → Proper v → atGoal ≤ v → Above v
+apart v p h =
+    let e : v / span ≡ wave v + 1 = omega (arith, p) in
+    record { from = h; wave = e; rest = omega (arith, p, e) }
+
+pub above : (v : ℕ) → Readable v → v ≢ 0 → v < unreached → Above v
+above v r e f = let k = r .keyed (omega arith) f in apart v (k .proper) (omega (arith, k .sum, k .proper))
+
 -- the parts of the key that a number stands for, as the code finds them; they can be packed
 pub record Parts (v m : ℕ) : Type 0 where
-  pub wave : 0 < v / span
-  pub diagonal : left (v % span) - m * straightKey ≡ diagonalOf (keyOf v - straightKey)
-  pub straight : v / span - 1 + diagonalKey * (near (v % span) + m) ≡ straightOf (keyOf v - straightKey) + 8119 * (v % span)
-  pub few : straightOf (keyOf v - straightKey) < 17000
+  pub diagonal : left (rest v) - m * straightKey ≡ diagonalOf (keyOf v - goalKey)
+  pub straight : wave v + diagonalKey * (near (rest v) + m) ≡ straightOf (keyOf v - goalKey) + 8119 * rest v
+  pub few : straightOf (keyOf v - goalKey) < 17000
 
-pub parts : (v m : ℕ) → Readable v → v ≢ 0 → v < unreached → m ≡ left (v % span) / straightKey → Parts v m
+pub parts : (v m : ℕ) → Readable v → v ≢ 0 → v < unreached → m ≡ left (rest v) / straightKey → Parts v m
 parts v m r e f is = record {
-  wave = bounds .0;
   diagonal = sym here;
-  straight = even ∙ ap (λ (z : ℕ). z + 8119 * (v % span)) (sym there-straight);
-  few = subst (λ (z : ℕ). z < 17000) (sym there-straight) (bounds .2);
+  straight = even ∙ ap (λ (z : ℕ). z + 8119 * rest v) (sym there-straight);
+  few = subst (λ (z : ℕ). z < 17000) (sym there-straight) (bounds .1);
 }
   where
     k : Keyed v
@@ -89,31 +107,38 @@ parts v m r e f is = record {
     l : Length
     l = k .length
 
-    d : Divided (v % span) m
-    d = divided (v % span) m (omega arith) is
+    d : Divided (rest v) m
+    d = divided (rest v) m (omega arith) is
 
-    bounds : (0 < v / span) × (l .diagonal < straightKey) × (l .straight < 17000)
-    bounds = omega (arith, k .sum, k .rest, r .below f)
+    a : Above v
+    a = above v r e f
 
-    same : keyOf v - straightKey ≡ key l
+    bounds : (l .diagonal < straightKey) × (l .straight < 17000)
+    bounds = omega (arith, k .sum, k .proper, r .below f)
+
+    same : keyOf v - goalKey ≡ key l
     same = omega (arith, k .sum)
 
-    parted : keyOf v - straightKey ≡ straightKey * (v / span - 1) + v % span
-    parted = omega (arith, bounds .0)
+    parted : keyOf v - goalKey ≡ straightKey * wave v + rest v
+    parted = omega (arith, a .wave, a .rest)
 
-    here : diagonalOf (keyOf v - straightKey) ≡ left (v % span) - m * straightKey
-    here = ap diagonalOf parted ∙ remains (v / span - 1) (v % span) (near (v % span) + m) _ (k .rest) (d .less) (d .sum)
+    here : diagonalOf (keyOf v - goalKey) ≡ left (rest v) - m * straightKey
+    here = ap diagonalOf parted ∙ remains (wave v) (rest v) (near (rest v) + m) _ (omega (arith, a .rest, k .proper)) (d .less) (d .sum)
 
-    there : diagonalOf (keyOf v - straightKey) ≡ l .diagonal
-    there = ap diagonalOf same ∙ ap (λ (z : Length). z .diagonal) (pair-back l (bounds .1))
+    there : diagonalOf (keyOf v - goalKey) ≡ l .diagonal
+    there = ap diagonalOf same ∙ ap (λ (z : Length). z .diagonal) (pair-back l (bounds .0))
 
-    there-straight : straightOf (keyOf v - straightKey) ≡ l .straight
-    there-straight = ap straightOf same ∙ ap (λ (z : Length). z .straight) (pair-back l (bounds .1))
+    there-straight : straightOf (keyOf v - goalKey) ≡ l .straight
+    there-straight = ap straightOf same ∙ ap (λ (z : Length). z .straight) (pair-back l (bounds .0))
 
-    even : v / span - 1 + diagonalKey * (near (v % span) + m) ≡ l .straight + 8119 * (v % span)
+    even : wave v + diagonalKey * (near (rest v) + m) ≡ l .straight + 8119 * rest v
     even =
-        balance (v / span - 1) (v % span) (near (v % span) + m) (left (v % span) - m * straightKey) (l .straight)
+        balance (wave v) (rest v) (near (rest v) + m) (left (rest v) - m * straightKey) (l .straight)
         (sym parted ∙ same ∙ ap (λ (z : ℕ). straightKey * l .straight + diagonalKey * z) (sym there ∙ here)) (d .sum)
+
+-- straight and diagonal parts of this size fit into an entry
+pub packs : (s d : ℕ) → s < 17000 → d < 17000 → s * 65536 + d < 4294967296
+packs s d few less = omega arith
 
 module _ (w h : ℕ) (x : List ℕ) where
   stored-more : (c r v : ℕ) (t : List ℕ) → c < w → r < h → Stored w h x (r * w + c) t → v ≡ pack (entryOf (at x (spot c r)))

@@ -4,16 +4,16 @@ use mathlib.Core.Path.{_≡_, refl, ap, ap₂}
 use Prim.Native.Nat.{ℕ, suc, _-_, _≤_, _<_}
 use native.Mathlib.Omega.{arith}
 use native.Mathlib.Decide.{decLe, ℕ-discrete}
-use Rattle.lengths.proofs.Keys.{straightKey, pair}
+use Rattle.lengths.proofs.Keys.{pair}
 use Rattle.entries.specs.Entry.{mark, long}
 use Rattle.offers.specs.Work.{unreached}
-use Rattle.storing.specs.Store.{keyOf, entryBy, entryOf}
+use Rattle.storing.specs.Store.{keyOf, goalKey, entryBy, entryOf}
 
 -- what a number can be
 pub data Kind (v : ℕ) : Type 0 where
   shut : v ≡ 0 → entryOf v ≡ mark → Kind v
   waits : unreached ≤ v → entryOf v ≡ mark → Kind v
-  reached : 0 < v → v < unreached → entryOf v ≡ long (pair (keyOf v - straightKey)) → Kind v
+  reached : 0 < v → v < unreached → entryOf v ≡ long (pair (keyOf v - goalKey)) → Kind v
 
 pub kind : (v : ℕ) → Kind v
 unfolding entryOf

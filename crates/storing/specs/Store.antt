@@ -8,26 +8,35 @@ use lib.ListN.{getD, length}
 use Rattle.lengths.specs.declared.Length.{Length}
 use Rattle.lengths.proofs.Keys.{straightKey, key, pair}
 use Rattle.entries.specs.Entry.{Entry, mark, long, pack}
-use Rattle.offers.specs.Work.{unreached, stride, span, highest, at, spot}
+use Rattle.offers.specs.Work.{unreached, stride, span, raise, highest, at, spot}
 
--- the key that a number stands for, one straight step more than the key of its length
+-- the key that a number stands for, one straight step and the raise more than the key of its length
 abbrev pub keyOf : ℕ → ℕ
 keyOf v = straightKey * (v / span) + v % span
+
+-- so this one for the goal's number
+abbrev pub goalKey : ℕ
+goalKey = straightKey + raise
 
 -- the entry that a number stands for: the mark for 0 and `unreached`, else the length
 abbrev pub entryBy : (v : ℕ) → Dec (v ≡ 0) → Dec (v < unreached) → Entry
 entryBy v (yes e) b = mark
-entryBy v (no e) (yes b) = long (pair (keyOf v - straightKey))
+entryBy v (no e) (yes b) = long (pair (keyOf v - goalKey))
 entryBy v (no e) (no b) = mark
 
 unfoldable pub entryOf : ℕ → Entry
 entryOf v = entryBy v (ℕ-discrete v 0) (decLe (suc v) unreached)
 
+-- a number whose remainder is a place in its wave
+pub record Proper (v : ℕ) : Type 0 where
+  pub low : raise ≤ v % span
+  pub high : v % span < raise + straightKey
+
 -- a number that stands for a length
 pub record Keyed (v : ℕ) : Type 0 where
   pub length : Length
-  pub sum : keyOf v ≡ straightKey + key length
-  pub rest : v % span < straightKey
+  pub sum : keyOf v ≡ goalKey + key length
+  pub proper : Proper v
 
 -- a number that the waves can leave
 pub record Readable (v : ℕ) : Type 0 where

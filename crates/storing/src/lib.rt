@@ -5,6 +5,7 @@ ghost use lib.ListN.{length};
 ghost use Rattle.lengths.proofs.Keys.{straightKey};
 ghost use Rattle.entries.specs.Entry.{pack};
 ghost use Rattle.storing.specs.Store.{entryOf, Readable, Storable, Stored};
+use offers::GOAL;
 use offers::STRAIGHT;
 use offers::STRIDE;
 use offers::UNREACHED;
@@ -30,8 +31,9 @@ fn whole_of(number: u32) -> u32
     if number < STRAIGHT_KEY { 0 } else { 1 }
 }
 
-// The table's entry for a number: the remainder's diagonal steps are 5741 * rest, of which each 13860 are straight ones. How often 13860 goes
-// into them is found nearly by a product, and then by one comparison, without a division, so that many entries are made at once.
+// The table's entry for a number, by how far it is above the goal's: the remainder's diagonal steps are 5741 * rest, of which each 13860 are
+// straight ones. How often 13860 goes into them is found nearly by a product, and then by one comparison, without a division, so that many
+// entries are made at once.
 fn entry_of(number: u32) -> u32
     requires { ⌜ Readable number ⌝ }
     ensures { λ r. ⌜ r ≡ pack (entryOf number) ⌝ }
@@ -42,13 +44,13 @@ fn entry_of(number: u32) -> u32
     if UNREACHED <= number {
         return MARK;
     }
-    let wave = number / STRAIGHT;
-    let rest = number % STRAIGHT;
+    let above = number - GOAL;
+    let rest = above % STRAIGHT;
     let near = rest * 27145 / 65536;
     let left = rest * MORE - near * STRAIGHT_KEY;
     let more = whole_of(left);
     let diagonal = left - more * STRAIGHT_KEY;
-    let straight = wave - 1 + DIAGONAL_KEY * (near + more) - FEWER * rest;
+    let straight = above / STRAIGHT + DIAGONAL_KEY * (near + more) - FEWER * rest;
     straight * 65536 + diagonal
 }
 

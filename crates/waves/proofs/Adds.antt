@@ -1,31 +1,34 @@
 -- A step adds its key to the key that a number stands for.
 -- Assumes nothing.
-use mathlib.Core.Path.{_≡_, refl, ap, ap₂, sym, subst, _∙_}
+use mathlib.Core.Path.{_≡_, refl, ap, ap₂, _∙_}
 use Prim.Native.Nat.{ℕ, zero, suc, _+_, _-_, _*_, _/_, _%_, _≤_, _<_}
 use native.Mathlib.Omega.{arith}
 use Rattle.lengths.proofs.Keys.{straightKey, key}
 use Rattle.steps.specs.Heading.{weight, byParity}
-use Rattle.offers.specs.Work.{span, extra, lateOf, stepped}
+use Rattle.offers.specs.Work.{span, extra, raise, lateOf, stepped}
 use Rattle.offers.proofs.Numbers.{late-bit, late-rest, early-rest, straight, diagonal}
-use Rattle.storing.specs.Store.{keyOf}
+use Rattle.storing.specs.Store.{keyOf, Proper}
 
 -- a number made of its parts is taken apart
 apart : (q r : ℕ) → r < span → ((q * span + r) / span ≡ q) × ((q * span + r) % span ≡ r)
 apart q r b = (omega arith, omega arith)
 
--- a step adds its key, and leaves a remainder that counts
+-- a step adds its key, and leads from a place in a wave to a place in a wave
 pub record Adds (h v : ℕ) : Type 0 where
   pub sum : keyOf (stepped h v) ≡ keyOf v + key (weight h)
-  pub rest : v % span < straightKey → stepped h v % span < straightKey
+  pub proper : Proper v → Proper (stepped h v)
 
 -- it does if it leads to q waves and r, and these make the sum
 adds : (h v q r : ℕ) → stepped h v ≡ q * span + r → r < span → straightKey * q + r ≡ keyOf v + key (weight h)
-    → (v % span < straightKey → r < straightKey) → Adds h v
+    → (Proper v → (raise ≤ r) × (r < raise + straightKey)) → Adds h v
 adds h v q r e b sum rest =
     let p = apart q r b in
     let d : stepped h v / span ≡ q = ap (λ (n : ℕ). n / span) e ∙ p .0 in
     let m : stepped h v % span ≡ r = ap (λ (n : ℕ). n % span) e ∙ p .1 in
-    record { sum = ap₂ (λ (i j : ℕ). straightKey * i + j) d m ∙ sum; rest = λ k. subst (λ (j : ℕ). j < straightKey) (sym m) (rest k) }
+    record {
+      sum = ap₂ (λ (i j : ℕ). straightKey * i + j) d m ∙ sum;
+      proper = λ k. record { low = omega (arith, m, rest k); high = omega (arith, m, rest k) };
+    }
 
 pub steps-add : (h v : ℕ) → Adds h v
 steps-add h v = by (h % 2) refl (lateOf v) refl
@@ -33,19 +36,19 @@ steps-add h v = by (h % 2) refl (lateOf v) refl
     by : (b : ℕ) → h % 2 ≡ b → (l : ℕ) → lateOf v ≡ l → Adds h v
     by zero e l f =
         let s = straight h v e in
-        adds h v (v / span + 1) (v % span) (omega arith) (omega arith) (omega (arith, ap (λ (p : ℕ). key (byParity p)) e)) (λ k. k)
+        adds h v (v / span + 1) (v % span) (omega arith) (omega arith) (omega (arith, ap (λ (p : ℕ). key (byParity p)) e)) (λ k. (k .low, k .high))
     by (suc zero) e zero f =
         let s = diagonal h v e in
         let r = early-rest v f in
-        adds h v (v / span + 1) (v % span + extra) (omega arith) (omega arith) (omega (arith, ap (λ (p : ℕ). key (byParity p)) e)) (λ k. omega arith)
+        adds h v (v / span + 1) (v % span + extra) (omega arith) (omega arith) (omega (arith, ap (λ (p : ℕ). key (byParity p)) e)) (λ k. omega (arith, k))
     by (suc zero) e (suc zero) f =
         let s = diagonal h v e in
         let r = late-rest v f in
         adds h v (v / span + 2) (v % span + extra - straightKey) (omega arith) (omega arith)
-        (omega (arith, ap (λ (p : ℕ). key (byParity p)) e)) (λ k. omega arith)
+        (omega (arith, ap (λ (p : ℕ). key (byParity p)) e)) (λ k. omega (arith, k))
     by (suc zero) e (suc (suc l)) f = absurd (omega (arith, late-bit v))
     by (suc (suc b)) e l f = absurd (omega arith)
 
 -- numbers are ordered as the keys that they stand for
-pub key-monotone : (u v : ℕ) → u % span < straightKey → u ≤ v → keyOf u ≤ keyOf v
-key-monotone u v b le = omega arith
+pub key-monotone : (u v : ℕ) → Proper u → Proper v → u ≤ v → keyOf u ≤ keyOf v
+key-monotone u v p q le = omega (arith, p, q)

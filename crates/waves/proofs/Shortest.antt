@@ -19,9 +19,9 @@ use Rattle.entries.specs.Entry.{Entry, mark, long}
 use Rattle.entries.specs.Filled.{Says}
 use Rattle.entries.specs.Made.{Least, Made}
 use Rattle.entries.proofs.Neighbours.{no-mark, long-inj, sound}
-use Rattle.offers.specs.Work.{unreached, stride, span, stepped, at, spot, WorkStep}
+use Rattle.offers.specs.Work.{unreached, stride, atGoal, stepped, at, spot, WorkStep}
 use Rattle.passes.specs.Solved.{Found, Solved}
-use Rattle.storing.specs.Store.{keyOf, entryOf, Keyed}
+use Rattle.storing.specs.Store.{keyOf, goalKey, entryOf, Proper, Keyed}
 use Rattle.storing.proofs.NumberKinds.{Kind, shut, waits, reached, kind}
 use Rattle.offers.proofs.Numbers.{like, stretch}
 use Rattle.waves.proofs.Adds.{steps-add, key-monotone}
@@ -34,27 +34,29 @@ module _ (floor : List ℕ) (goal : ℕ) (x : List ℕ) (s : Solved floor goal x
   keyed-below (suc n) z b o f = by (s .support z o f) (keyed-below n)
     where
       by : (z ≡ goal) ⊎ Found floor x z (at x z) → ((y : ℕ) → at x y ≤ n → 0 < at x y → at x y < unreached → Keyed (at x y)) → Keyed (at x z)
-      by (inl e) ih = let start : at x z ≡ span = ap (at x) e ∙ s .start in record { length = zeroLength; sum = ap keyOf start; rest = omega arith }
+      by (inl e) ih =
+          let start : at x z ≡ atGoal = ap (at x) e ∙ s .start in
+          record { length = zeroLength; sum = ap keyOf start; proper = record { low = omega arith; high = omega arith } }
       by (inr u) ih =
           let k = ih (u .cell) (omega (arith, u .sum, stretch (u .heading) (at x (u .cell)))) (s .free (u .cell) (u .step .from)) (u .found) in
           let add = steps-add (u .heading) (at x (u .cell)) in
           record {
             length = k .length ⊕ weight (u .heading);
             sum = ap keyOf (u .sum) ∙ add .sum ∙ ap (λ (n : ℕ). n + key (weight (u .heading))) (k .sum) ∙ omega arith;
-            rest = subst (λ (v : ℕ). v % span < straightKey) (sym (u .sum)) (add .rest (k .rest));
+            proper = subst Proper (sym (u .sum)) (add .proper (k .proper));
           }
 
   pub keyed : (z : ℕ) → 0 < at x z → at x z < unreached → Keyed (at x z)
   keyed z = keyed-below (at x z) z (le-refl (at x z))
 
   -- its parts are small, and it is read from the number
-  few : (z : ℕ) (f : at x z < unreached) (l : Length) → keyOf (at x z) ≡ straightKey + key l
+  few : (z : ℕ) (f : at x z < unreached) (l : Length) → keyOf (at x z) ≡ goalKey + key l
       → (l .straight < diagonalKey) × (l .diagonal < straightKey)
   few z f l e = (omega (arith, s .below z f), omega (arith, s .below z f))
 
-  read : (z : ℕ) (f : at x z < unreached) (l : Length) → keyOf (at x z) ≡ straightKey + key l → pair (keyOf (at x z) - straightKey) ≡ l
+  read : (z : ℕ) (f : at x z < unreached) (l : Length) → keyOf (at x z) ≡ goalKey + key l → pair (keyOf (at x z) - goalKey) ≡ l
   read z f l e =
-      let k : keyOf (at x z) - straightKey ≡ key l = omega arith in
+      let k : keyOf (at x z) - goalKey ≡ key l = omega arith in
       ap pair k ∙ pair-back l (few z f l e .1)
 
 module _ (f : Floor) (wide : 0 < f .width) (floor x : List ℕ) (m : Mapped f floor) (g : ℕ)
@@ -78,9 +80,9 @@ module _ (f : Floor) (wide : 0 < f .width) (floor x : List ℕ) (m : Mapped f fl
       sym (div-add-mod' y (f .width)) ∙ ap₂ (λ (u v : ℕ). u * f .width + v) b a ∙ div-add-mod' z (f .width)
 
   at-goal : T g ≡ long zeroLength
-  at-goal = ap entryOf (s .start) ∙ by (kind span)
+  at-goal = ap entryOf (s .start) ∙ by (kind atGoal)
     where
-      by : Kind span → entryOf span ≡ long zeroLength
+      by : Kind atGoal → entryOf atGoal ≡ long zeroLength
       by (shut e p) = absurd (omega arith)
       by (waits e p) = absurd (omega arith)
       by (reached o k p) = p
@@ -111,11 +113,11 @@ module _ (f : Floor) (wide : 0 < f .width) (floor x : List ℕ) (m : Mapped f fl
       by (reached o k p) (inr e) = absurd (omega (arith, over h y z u k, s .below (place z) k, stretch h (at x (place z))))
 
   lengths : (y : ℕ) → ¬ Goal y → 0 < at x (place y) → at x (place y) < unreached
-      → Least (graph f) T y (long (pair (keyOf (at x (place y)) - straightKey)))
+      → Least (graph f) T y (long (pair (keyOf (at x (place y)) - goalKey)))
   lengths y other o k = (some (s .support (place y) o k), all)
     where
       some : (place y ≡ place g) ⊎ Found floor x (place y) (at x (place y))
-          → (h : ℕ) × (z : ℕ) × (n : Length) × (graph f) .Step h y z × (T z ≡ long n) × (pair (keyOf (at x (place y)) - straightKey) ≡ n ⊕ weight h)
+          → (h : ℕ) × (z : ℕ) × (n : Length) × (graph f) .Step h y z × (T z ≡ long n) × (pair (keyOf (at x (place y)) - goalKey) ≡ n ⊕ weight h)
       some (inl e) = absurd (other (same-cell y g e))
       some (inr u) =
           let from = u .step .from in
@@ -139,12 +141,12 @@ module _ (f : Floor) (wide : 0 < f .width) (floor x : List ℕ) (m : Mapped f fl
           let e : weight ((u .heading + 4) % 8) ≡ weight (u .heading) = ap byParity parity in
           let entry-z = reads z (omega arith) (omega (arith, u .found)) n (kz .sum) in
           let found = ap keyOf (u .sum ∙ ap (stepped (u .heading)) (sym same)) ∙ steps-add (u .heading) (at x (place z)) .sum in
-          let sum : keyOf (at x (place y)) ≡ straightKey + key (n ⊕ weight (u .heading)) =
+          let sum : keyOf (at x (place y)) ≡ goalKey + key (n ⊕ weight (u .heading)) =
           found ∙ ap (λ (v : ℕ). v + key (weight (u .heading))) (kz .sum) ∙ omega arith in
           let read-y = read floor (place g) x s (place y) k (n ⊕ weight (u .heading)) sum in
           ((u .heading + 4) % 8, z, n, go, entry-z, read-y ∙ ap (λ (d : Length). n ⊕ d) (sym e))
         where
-          reads : (z : ℕ) → 0 < at x (place z) → at x (place z) < unreached → (n : Length) → keyOf (at x (place z)) ≡ straightKey + key n
+          reads : (z : ℕ) → 0 < at x (place z) → at x (place z) < unreached → (n : Length) → keyOf (at x (place z)) ≡ goalKey + key n
               → T z ≡ long n
           reads z o k n e = by (kind (at x (place z)))
             where
@@ -153,19 +155,20 @@ module _ (f : Floor) (wide : 0 < f .width) (floor x : List ℕ) (m : Mapped f fl
               by (waits d p) = absurd (omega arith)
               by (reached d b p) = p ∙ ap long (read floor (place g) x s (place z) k n e)
 
-      all : (h z : ℕ) (n : Length) → (graph f) .Step h y z → T z ≡ long n → pair (keyOf (at x (place y)) - straightKey) ⊑ n ⊕ weight h
+      all : (h z : ℕ) (n : Length) → (graph f) .Step h y z → T z ≡ long n → pair (keyOf (at x (place y)) - goalKey) ⊑ n ⊕ weight h
       all h z n u e = by (kind (at x (place z)))
         where
-          by : Kind (at x (place z)) → pair (keyOf (at x (place y)) - straightKey) ⊑ n ⊕ weight h
+          by : Kind (at x (place z)) → pair (keyOf (at x (place y)) - goalKey) ⊑ n ⊕ weight h
           by (shut d p) = absurd (no-mark (sym e ∙ p))
           by (waits d p) = absurd (no-mark (sym e ∙ p))
           by (reached d b p) =
               let ky = keyed floor (place g) x s (place y) o k in
               let kz = keyed floor (place g) x s (place z) d b in
+              let add = steps-add h (at x (place z)) in
               let same : n ≡ kz .length = long-inj (sym e ∙ p) ∙ read floor (place g) x s (place z) b (kz .length) (kz .sum) in
               subst₂ _⊑_ (sym (read floor (place g) x s (place y) k (ky .length) (ky .sum))) (ap (λ (d : Length). d ⊕ weight h) (sym same))
               (key-order (ky .length) (kz .length ⊕ weight h) (few floor (place g) x s (place y) k (ky .length) (ky .sum) .0)
-              (omega (arith, key-monotone _ _ (ky .rest) (over h y z u b), steps-add h (at x (place z)) .sum, ky .sum, kz .sum)))
+              (omega (arith, key-monotone _ _ (ky .proper) (add .proper (kz .proper)) (over h y z u b), add .sum, ky .sum, kz .sum)))
 
   made : (y : ℕ) → Made (graph f) Goal T y (T y)
   made y = record { at-goal = λ e. ap T e ∙ at-goal; elsewhere = λ other. by other (kind (at x (place y))) }

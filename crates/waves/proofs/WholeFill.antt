@@ -18,7 +18,7 @@ use Rattle.steps.specs.Step.{stepsOf}
 use Rattle.steps.specs.Way.{Only}
 use Rattle.steps.proofs.Leads.{open-column, open-row, floor, Past, past}
 use Rattle.entries.specs.Filled.{Filled}
-use Rattle.offers.specs.Work.{unreached, stride, largest, span, at, spot, Inside}
+use Rattle.offers.specs.Work.{unreached, stride, largest, atGoal, at, spot, Inside}
 use Rattle.passes.specs.Solved.{Loaded, Solved}
 use Rattle.loading.specs.Load.{numberOf, loaded, Prefix}
 use Rattle.storing.specs.Store.{entryOf, Storable, Stored}
@@ -61,7 +61,7 @@ module _ (m : Map) (goal entries : ℕ) (a : Fillable m goal entries) (x : List 
   g = spot (goal % m .width) (goal / m .width)
 
   abbrev x′ : List ℕ
-  x′ = set x g span
+  x′ = set x g atGoal
 
   gc : goal % m .width < m .width
   gc = mod-lt goal (a .sound .some-wide)
@@ -85,7 +85,7 @@ module _ (m : Map) (goal entries : ℕ) (a : Fillable m goal entries) (x : List 
   -- a cell with a number is open
   behind : (z : ℕ) → 0 < at x′ z → Past m (z % stride) (z / stride)
   unfolding loaded
-  behind = each x g span goal-on (λ z v. 0 < v → Past m (z % stride) (z / stride)) (λ o. at-goal) (λ z e o. on z o)
+  behind = each x g atGoal goal-on (λ z v. 0 < v → Past m (z % stride) (z / stride)) (λ o. at-goal) (λ z e o. on z o)
     where
       on : (z : ℕ) → 0 < at x z → Past m (z % stride) (z / stride)
       on z o =
@@ -106,17 +106,17 @@ module _ (m : Map) (goal entries : ℕ) (a : Fillable m goal entries) (x : List 
       let c = open-column m _ _ (q .«open») in
       let r = open-row m _ _ (q .«open») in
       let n = a .sound .wide in
-      record { low = omega (arith, q .column, q .row); high = omega (arith, q .column, q .row, p .tall, length-set x g span) }
+      record { low = omega (arith, q .column, q .row); high = omega (arith, q .column, q .row, p .tall, length-set x g atGoal) }
 
   pub ready : (q : List ℕ) → length x ≤ largest → length q ≡ entries → Loaded x′ q g
   unfolding loaded
   ready q few size = record {
-    few = omega (arith, length-set x g span);
+    few = omega (arith, length-set x g atGoal);
     small = omega (arith, a .table, mul-le-mul (a .sound .high) (a .sound .wide));
     enough =
-        omega (arith, a .table, p .few, waiting-set x g span goal-on, waits (goal % m .width) (goal / m .width) (a .chosen .free));
-    start = getD-set-same x g span 0 goal-on;
-    kinds = each x g span goal-on (λ z v. (z ≡ g) ⊎ ((v ≡ 0) ⊎ (v ≡ unreached))) (inl refl) (λ z e. inr (kinds z));
+        omega (arith, a .table, p .few, waiting-set x g atGoal goal-on, waits (goal % m .width) (goal / m .width) (a .chosen .free));
+    start = getD-set-same x g atGoal 0 goal-on;
+    kinds = each x g atGoal goal-on (λ z v. (z ≡ g) ⊎ ((v ≡ 0) ⊎ (v ≡ unreached))) (inl refl) (λ z e. inr (kinds z));
     border = border;
   }
     where
@@ -126,7 +126,7 @@ module _ (m : Map) (goal entries : ℕ) (a : Fillable m goal entries) (x : List 
   mapped : Mapped (floor m) x′
   mapped = record {
     narrow = a .sound .wide;
-    free = λ c r o. each x g span goal-on (λ z v. z ≡ spot c r → 0 < v) (λ e. omega arith) (λ z d e. omega (arith, ap (at x) e, waits c r o)) (spot c r) refl;
+    free = λ c r o. each x g atGoal goal-on (λ z v. z ≡ spot c r → 0 < v) (λ e. omega arith) (λ z d e. omega (arith, ap (at x) e, waits c r o)) (spot c r) refl;
     column = λ z o. z % stride - 1;
     row = λ z o. z / stride - 1;
     opened = λ z o. behind z o .«open»;
@@ -138,7 +138,7 @@ module _ (m : Map) (goal entries : ℕ) (a : Fillable m goal entries) (x : List 
     storable = record {
       wide = a .sound .wide;
       high = a .sound .high;
-      tall = omega (arith, p .tall, s .cells, length-set x g span);
+      tall = omega (arith, p .tall, s .cells, length-set x g atGoal);
       all = λ z. record { keyed = keyed x′ g x″ s z; below = s .below z };
     }
 

@@ -32,7 +32,7 @@ fn fill_in(
 {
     loading::load_map(work, width, height, map);
     let place = (goal / width + 1) * offers::STRIDE + goal % width + 1;
-    work[place] = offers::STRAIGHT;
+    work[place] = offers::GOAL;
     passes::all_waves(work, table, place);
     storing::store_table(work, width, height, table);
 }

@@ -3,7 +3,8 @@
 use mathlib.Core.Path.{refl}
 use native.Mathlib.Omega.{arith}
 use borrow.Author.Needs.{needs}
-use Rattle.offers.proofs.Numbers.{early-is, late-is, diagonal}
+use Rattle.offers.specs.Work.{lateOf}
+use Rattle.offers.proofs.Numbers.{diagonal}
 use Rattle.offers.proofs.diagonal_of.Statement.{statement}
 use Rattle.offers.proofs.diagonal_of.Tie as tie
 
@@ -14,10 +15,12 @@ add-result-2 : tie.Need-add-result-2
 add-result-2 c = search needs
 
 returns : tie.Need-returns
-returns c = omega (arith, diagonal 1 (c .before .args .number) refl, early-is _ (c .if1 .taken))
+unfolding lateOf
+returns c = omega (arith, diagonal 1 (c .before .args .number) refl, c .if1 .taken)
 
 returns-2 : tie.Need-returns-2
-returns-2 c = omega (arith, diagonal 1 (c .before .args .number) refl, late-is _ (c .if1 .left))
+unfolding lateOf
+returns-2 c = omega (arith, diagonal 1 (c .before .args .number) refl, c .if1 .left)
 
 pub diagonal-of-spec : {M : Type 1} → statement M
 diagonal-of-spec = tie.close (tie.spec add-result add-result-2 returns returns-2)

@@ -5,7 +5,7 @@ use mathlib.Core.Path.{ap₂, _∙_}
 use Prim.Native.Nat.{ℕ, _+_, _*_}
 use native.Mathlib.Omega.{arith}
 use borrow.Author.Needs.{needs}
-use Rattle.storing.proofs.EntriesStored.{packed-shut, packed-waits, packed-length, Parts, parts}
+use Rattle.storing.proofs.EntriesStored.{packed-shut, packed-waits, packed-length, above, Parts, parts, packs}
 use Rattle.storing.proofs.entry_of.Statement.{statement}
 use Rattle.storing.proofs.entry_of.Tie as tie
 
@@ -18,6 +18,9 @@ returns-2 c = packed-waits _ (c .if2 .taken)
 -- where a length stands, it has its parts
 parted : (c : tie.After-whole-of) → Parts (c .before .before .before .args .number) (c .whole-of .result)
 parted c = parts _ _ (c .before .before .before .pre) (c .before .before .if1 .left) (c .before .if2 .left) (c .whole-of .ensures)
+
+sub-above : tie.Need-sub-above
+sub-above c = above _ (c .before .before .pre) (c .before .if1 .left) (c .if2 .left) .from
 
 mul-near : tie.Need-mul-near
 mul-near c = search needs
@@ -40,9 +43,6 @@ mul-diagonal c = search needs
 sub-diagonal : tie.Need-sub-diagonal
 sub-diagonal c = search needs
 
-sub-straight : tie.Need-sub-straight
-sub-straight c = parted c .wave
-
 add-straight : tie.Need-add-straight
 add-straight c = search needs
 
@@ -55,14 +55,16 @@ add-straight-2 c = search needs
 mul-straight-2 : tie.Need-mul-straight-2
 mul-straight-2 c = search needs
 
-sub-straight-2 : tie.Need-sub-straight-2
-sub-straight-2 c = omega (arith, parted c .straight)
+sub-straight : tie.Need-sub-straight
+sub-straight c = omega (arith, parted c .straight)
 
 mul-result : tie.Need-mul-result
 mul-result c = let k = parted c in omega (arith, k .straight, k .few)
 
 add-result : tie.Need-add-result
-add-result c = let k = parted c in omega (arith, k .straight, k .few)
+add-result c =
+    let k = parted c in
+    record { fits = packs _ _ (omega (arith, k .straight, k .few)) (omega (arith, k .straight, k .few)) }
 
 returns-3 : tie.Need-returns-3
 returns-3 c =
@@ -76,6 +78,7 @@ entry-of-spec =
     (tie.spec
     returns
     returns-2
+    sub-above
     mul-near
     mul-left
     mul-left-2
@@ -83,12 +86,11 @@ entry-of-spec =
     whole-of-requires
     mul-diagonal
     sub-diagonal
-    sub-straight
     add-straight
     mul-straight
     add-straight-2
     mul-straight-2
-    sub-straight-2
+    sub-straight
     mul-result
     add-result
     returns-3)
