@@ -29,15 +29,15 @@ pub fn clear(width: usize, height: usize, scratch: &mut [u32; sheet::SCRATCH], b
     }
 }
 
-// The length over the k-th of the nine, if a step leads there and it has one.
+// The length over the k-th of the nine, if it has one and a step leads there.
 fn length_over(scratch: &[u32; sheet::SCRATCH], base: usize, corner: usize, k: usize) -> u32
     requires { ⌜ (base ≤ 33800) × (corner ≤ 16637) × (k < 9) ⌝ }
 {
-    if !sheet::leads(scratch, corner, k) {
-        return sizes::NONE;
-    }
     let there = scratch[base + sheet::place_of(corner, k)];
     if sizes::NONE <= there {
+        return sizes::NONE;
+    }
+    if !sheet::leads(scratch, corner, k) {
         return sizes::NONE;
     }
     there + sheet::step_of(k)
@@ -54,10 +54,13 @@ pub fn least_over(scratch: &[u32; sheet::SCRATCH], base: usize, corner: usize) -
     least
 }
 
-// Shortens the length of the cell of a corner, if a step from it makes it shorter: whether one does.
+// Shortens the length of the cell of a corner, if it is open and a step from it makes it shorter: whether one does.
 fn shorten(scratch: &mut [u32; sheet::SCRATCH], base: usize, corner: usize) -> bool
     requires { ⌜ (base ≤ 33800) × (corner ≤ 16637) ⌝ }
 {
+    if !sheet::stands(scratch, corner) {
+        return false;
+    }
     let least = least_over(scratch, base, corner);
     if sizes::is_shorter(least, scratch[base + corner + 131]) {
         scratch[base + corner + 131] = least;
@@ -97,7 +100,19 @@ fn sweep_row(
     changed
 }
 
-// Sweeps over the floor, southward and eastward or back: whether anything changed.
+// Sweeps over one row eastward and then westward: whether anything changed.
+fn sweep_both(width: usize, row: usize, scratch: &mut [u32; sheet::SCRATCH], base: usize) -> bool
+    requires { ⌜ (width ≤ 128) × (row < 128) × (base ≤ 33800) ⌝ }
+{
+    let east = sweep_row(width, row, scratch, base, false);
+    let west = sweep_row(width, row, scratch, base, true);
+    if east {
+        return true;
+    }
+    west
+}
+
+// Sweeps over the floor, southward or northward, over each row there and back: whether anything changed.
 fn sweep(
     width: usize,
     height: usize,
@@ -110,7 +125,7 @@ fn sweep(
     let mut changed = false;
     for i in 0..height {
         let row = turned(i, height, back);
-        if sweep_row(width, row, scratch, base, back) {
+        if sweep_both(width, row, scratch, base) {
             changed = true;
         }
     }

@@ -21,8 +21,11 @@ pub fn is_shorter(first: u32, second: u32) -> bool {
     size_of(first) < size_of(second)
 }
 
-// The shorter of two.
+// The shorter of two; the first, if the second is none.
 pub fn shorter_of(first: u32, second: u32) -> u32 {
+    if NONE <= second {
+        return first;
+    }
     if is_shorter(second, first) {
         return second;
     }

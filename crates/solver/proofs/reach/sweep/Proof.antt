@@ -16,8 +16,8 @@ loop-holds c = search needs
 turned-requires : tie.Need-turned-requires Inv-loop μ-loop
 turned-requires c κs = search needs
 
-sweep-row-requires : tie.Need-sweep-row-requires Inv-loop μ-loop
-sweep-row-requires c κs = search needs
+sweep-both-requires : tie.Need-sweep-both-requires Inv-loop μ-loop
+sweep-both-requires c κs = search needs
 
 add-i : tie.Need-add-i Inv-loop μ-loop
 add-i c = search needs
@@ -39,7 +39,7 @@ sweep-spec =
     μ-loop
     loop-holds
     turned-requires
-    sweep-row-requires
+    sweep-both-requires
     add-i
     loop-less
     loop-again
