@@ -32,12 +32,6 @@ unfolding waiting
 waiting-none [] k = refl
 waiting-none (v ∷ x) k = omega (arith, k 0, waiting-none x (λ z. k (suc z)))
 
--- a store in the queue leaves the room
-pub room-queue : (x q : List ℕ) (t j v : ℕ) → Room x q t → Room x (set q j v) t
-room-queue x q t j v r =
-    let n = length-set q j v in
-    record { few = r .few; narrow = omega (arith, r .narrow); enough = omega (arith, r .enough) }
-
 -- the queue grows by the cells that no longer wait
 pub room-offer :
     (x q : List ℕ) (t a b : ℕ) → b ≤ at x a → Room x q t → Room (set x a b) (set q t a) (t + (at x a / unreached - b / unreached))

@@ -12,18 +12,20 @@ use Rattle.offers.specs.Work.{unreached, span, atGoal, stepped, highest,
 use Rattle.offers.specs.Wave.{Wave, Support, Listed, Next, Going, Falls}
 use Rattle.offers.specs.Taken.{This}
 use Rattle.offers.proofs.Numbers.{stretch}
-use Rattle.offers.proofs.Changed.{each, room-queue}
+use Rattle.offers.proofs.Changed.{each}
 
 -- what stands in the queue before its end
 front : (q : List ℕ) (t a i : ℕ) → i < t → getD (set q t a) i 0 ≡ getD q i 0
 front q t a i h = getD-set-other q t i a 0 (omega arith)
 
--- a store in the queue, but not among the next wave's cells
-aside : (w : Wave) (x q : List ℕ) (t j v : ℕ) → Going w x q t → ((i : ℕ) → w .end ≤ i → i < t → i ≢ j) → Going w x (set q j v) t
-aside w x q t j v g apart = record {
+-- another queue does as well, if it is as long and has the same cells from where the wave began up to its end
+pub same-behind :
+    (w : Wave) (x q q′ : List ℕ) (t : ℕ) → Going w x q t → length q′ ≡ length q → ((i : ℕ) → w .end ≤ i → i < t → getD q′ i 0 ≡ getD q i 0)
+    → Going w x q′ t
+same-behind w x q q′ t g size same = record {
   border = g .border;
   cells = g .cells;
-  room = room-queue x q t j v (g .room);
+  room = record { few = g .room .few; narrow = omega (arith, g .room .narrow); enough = omega (arith, g .room .enough) };
   order = g .order;
   kinds = g .kinds;
   free = g .free;
@@ -33,19 +35,14 @@ aside w x q t j v g apart = record {
   support = g .support;
   relaxed = g .relaxed;
   listed = λ z o f. let l = g .listed z o f in
-      record {
-        index = l .index;
-        here = getD-set-other q j (l .index) v 0 (apart (l .index) (l .after) (l .before)) ∙ l .here;
-        after = l .after;
-        before = l .before;
-      };
-  queued = λ i l h. subst (Next w x) (sym (getD-set-other q j i v 0 (apart i l h))) (g .queued i l h);
+      record { index = l .index; here = same (l .index) (l .after) (l .before) ∙ l .here; after = l .after; before = l .before };
+  queued = λ i m n. subst (Next w x) (sym (same i m n)) (g .queued i m n);
 }
 
 module _ (w : Wave) (x q : List ℕ) (t a : ℕ) (g : Going w x q t) where
   -- the queue's place after its end does not matter
   pub idle : Going w x (set q t a) t
-  idle = aside w x q t t a g (λ i l h e. omega arith)
+  idle = same-behind w x q (set q t a) t g (length-set q t a) (λ i m n. front q t a i n)
 
   pub idle-falls : Falls w x q x (set q t a)
   idle-falls = record { low = λ z. omega arith; keep = λ z h. refl; high = λ z h. h; queue = λ i h. front q t a i (omega (arith, g .order)) }

@@ -30,7 +30,7 @@ module _ (floor : List ℕ) (goal mid fresh tail limit : ℕ) (x q : List ℕ) (
   pass-ready = record {
     going = g .going;
     small = small floor goal mid fresh tail limit x q g more;
-    begins = (refl, refl);
+    begins = refl;
     order = g .order;
     cells = g .due;
     waited = g .waited;

@@ -11,6 +11,7 @@ use Rattle.offers.specs.Work.{highest, stepped, at, Inside, WorkStep, Room}
 use Rattle.offers.specs.Wave.{Wave, Listed, Reached, Going}
 use Rattle.offers.specs.Taken.{Offered, This, TakenLeft}
 use Rattle.passes.specs.Pass.{Due, Places, Parted, StepsReady, StepsBegun, StepsDone, StepsLeft, PassReady, PassBegun, PassDone, PassLeft}
+use Rattle.offers.proofs.OneOffer.{same-behind}
 use Rattle.offers.proofs.OneStep.{open-floor}
 use Rattle.passes.proofs.Parting.{parted-before}
 
@@ -98,24 +99,7 @@ module _ (w : Wave) (x q : List ℕ) (mid fresh t : ℕ) (r : PassReady w x q mi
   module _ (q′ : List ℕ) (top : ℕ) (p : Parted x (w .limit) mid t q q′ top) (size : length q′ ≡ length q) where
     -- no cell was reached yet in this wave, so that the order of those before it does not matter
     going : Going w x q′ t
-    going = record {
-      border = g .border;
-      cells = g .cells;
-      room = record { few = g .room .few; narrow = omega (arith, g .room .narrow); enough = omega (arith, g .room .enough) };
-      order = g .order;
-      kinds = g .kinds;
-      free = g .free;
-      shut = g .shut;
-      start = g .start;
-      below = g .below;
-      support = g .support;
-      relaxed = g .relaxed;
-      listed = λ z e f. absurd (omega (arith, ap (λ (l : List ℕ). at l z) (r .begins .0)));
-      queued = λ i m n. absurd (omega (arith, r .begins .1));
-    }
-      where
-        g : Going w x q t
-        g = r .going
+    going = same-behind w x q q′ t (r .going) size (λ i m n. absurd (omega (arith, r .begins)))
 
     due : (k : ℕ) → mid ≤ k → k < t → Due x (w .limit) (getD q′ k 0)
     due k m n = let l = p .old k m n in subst (Due x (w .limit)) (l .here) (r .cells (l .index) (l .after) (l .before))
@@ -124,7 +108,7 @@ module _ (w : Wave) (x q : List ℕ) (mid fresh t : ℕ) (r : PassReady w x q mi
     steps-ready = record {
       going = going;
       small = r .small;
-      begins = r .begins .1;
+      begins = r .begins;
       order = p .order .1;
       cells = λ k m n. let d = due k m (omega (arith, p .order)) in
           record { free = d .reached .free; after = d .after; near = p .front k m n };
@@ -144,12 +128,12 @@ module _ (w : Wave) (x q : List ℕ) (mid fresh t : ℕ) (r : PassReady w x q mi
         where
           by : Dec (top ≤ l .index) → Listed q″ top (w .end) z
           by (yes n) =
-              let u : l .index < w .end = omega (arith, l .before, r .begins .1) in
+              let u : l .index < w .end = omega (arith, l .before, r .begins) in
               record { index = l .index; here = d .falls .queue (l .index) u ∙ l .here; after = n; before = u }
           by (no n) = absurd (omega (arith, p .front (l .index) (l .after) (omega arith), ap (at x) (l .here)))
 
       kept : (k : ℕ) → mid ≤ k → k < w .end → Listed q′ mid t (getD q k 0)
-      kept k m n = p .kept k m (omega (arith, r .begins .1))
+      kept k m n = p .kept k m (omega (arith, r .begins))
 
       done : (k h b : ℕ) → mid ≤ k → k < w .end → at x (getD q k 0) < w .limit → WorkStep (w .floor) h (getD q k 0) b
           → at x′ b ≤ stepped h (at x (getD q k 0))
@@ -160,7 +144,7 @@ module _ (w : Wave) (x q : List ℕ) (mid fresh t : ℕ) (r : PassReady w x q mi
 
       waits : (k : ℕ) → top ≤ k → k < w .end → (Reached x (getD q″ k 0)) × (w .limit ≤ at x (getD q″ k 0))
       waits k m n =
-          let u : k < t = omega (arith, r .begins .1) in
+          let u : k < t = omega (arith, r .begins) in
           subst (λ (z : ℕ). Reached x z × (w .limit ≤ at x z)) (sym (d .falls .queue k n)) (due k (omega (arith, p .order)) u .reached, p .back k m u)
 
       pub pass-done : PassDone w mid top x q x′ q″ t′

@@ -67,7 +67,7 @@ pub record Due (x : List ℕ) (limit p : ℕ) : Type 0 where
 pub record PassReady (w : Wave) (x q : List ℕ) (mid fresh t : ℕ) : Type 0 where
   pub going : Going w x q t
   pub small : w .limit ≤ highest
-  pub begins : (w .before ≡ x) × (w .end ≡ t)
+  pub begins : w .end ≡ t
   pub order : (mid ≤ fresh) × (fresh ≤ t)
   pub cells : (i : ℕ) → mid ≤ i → i < t → Due x (w .limit) (getD q i 0)
   -- those that waited in the wave before are ready
