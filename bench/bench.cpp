@@ -1,5 +1,5 @@
 // The benchmark: every floor is filled and checked by the library and by its peers. All must agree on every table before anything is timed.
-// They run by turns, each floor for its ten goals, and of each the least time for each goal in a round is kept, and the mean of these over the
+// They run by turns, each floor for its goals, and of each the least time for each goal in a round is kept, and the mean of these over the
 // goals; it prints a table of ratios for each way of taking turns, the median of the rounds and, where they differ, the least and the
 // greatest. Times are shown for orientation.
 #include <algorithm>
@@ -171,16 +171,20 @@ void measure(Floor &floor, int rounds, int turns, int in_a_row) {
 
 }  // namespace
 
-// bench ROUNDS TURNS CALLS GOALS: so many calls in a row at each turn, for so many of a floor's ten goals
+// bench ROUNDS CALLS ROW GOALS SMALL: so many calls in a round on 128 × 128, and as many more on 16 × 16 as it has fewer cells, ROW of them in a
+// row at each turn, for so many of a floor's goals on 128 × 128 and on 16 × 16
 int main(int argc, char **argv) {
-    if (argc != 5) return 2;
-    const int rounds = std::atoi(argv[1]), calls = std::atoi(argv[3]), turns = std::atoi(argv[2]);
+    if (argc != 6) return 2;
+    const int rounds = std::atoi(argv[1]), calls = std::atoi(argv[2]), row = std::atoi(argv[3]);
+    const std::size_t large = std::size_t(std::atoi(argv[4])), small = std::size_t(std::atoi(argv[5]));
+    if (rounds < 1 || row < 1 || calls < row || large < 1 || small < 1) return 2;
     std::printf("| floor | fill, µs | Boost, pairs / fill | Boost, packed / fill | fill / C++ by g++ | fill / C++ by clang++ | check, µs "
                 "| check / C++ by g++ | check / C++ by clang++ | fill / check |\n|---|---|---|---|---|---|---|---|---|---|\n");
-    const std::size_t goals = std::size_t(std::atoi(argv[4]));
-    if (goals < 1 || goals > 10) return 2;
     for (Floor &floor : all_floors()) {
+        const std::size_t goals = floor.cells() == LARGE ? large : small;
+        const int turns = calls * int(LARGE / floor.cells()) / row;
+        if (goals > floor.goals.size() || goals > std::size_t(turns * row)) return 2;
         floor.goals.resize(goals);
-        measure(floor, rounds, floor.cells() < 1000 ? 20 * turns : turns, calls);
+        measure(floor, rounds, turns, row);
     }
 }

@@ -1,4 +1,4 @@
-// The floors of the benchmarks, each with ten goals, all from fixed seeds.
+// The floors of the benchmarks, each with its goals, all from fixed seeds.
 #pragma once
 #include <cstdint>
 #include <random>
@@ -34,11 +34,15 @@ struct Floor {
     }
 };
 
+// the cells of the largest floor
+constexpr std::size_t LARGE = 16384;
+
 // column and row changes of the eight headings; an odd heading is a diagonal step
 constexpr int ACROSS[8] = {0, 1, 1, 1, 0, -1, -1, -1};
 constexpr int DOWN[8] = {-1, -1, 0, 1, 1, 1, 0, -1};
 
-// Takes ten goals out of the largest part of the floor that hangs together.
+// Takes goals out of the largest part of the floor that hangs together: ten on a floor of 128 × 128 cells, and on a smaller one so many more
+// that as many cells are filled in all.
 inline void goals_in_largest(Floor &floor) {
     std::vector<char> seen(floor.cells());
     std::vector<std::size_t> largest;
@@ -58,7 +62,7 @@ inline void goals_in_largest(Floor &floor) {
         if (part.size() > largest.size()) largest = part;
     }
     std::mt19937 random(5);
-    for (int i = 0; i < 10; i++) floor.goals.push_back(largest[random() % largest.size()]);
+    for (std::size_t i = 0; i < 10 * (LARGE / floor.cells()); i++) floor.goals.push_back(largest[random() % largest.size()]);
     floor.goal = floor.goals[0];
 }
 

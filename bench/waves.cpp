@@ -58,8 +58,9 @@ inline size_t cell_steps(u32 *__restrict work, u32 *__restrict queue, size_t tai
 
 // Brings the cells of queue[mid..tail] below the limit before those that wait. Gives where the first one that waits stands.
 inline size_t ready_first(const u32 *__restrict work, u32 *__restrict queue, size_t mid, size_t tail, u32 limit) {
-    size_t top = mid;
-    for (size_t i = mid; i < tail; i++) {
+    if (mid == tail) return mid;
+    size_t top = mid + (work[queue[mid]] < limit);
+    for (size_t i = mid + 1; i < tail; i++) {
         const u32 cell = queue[i];
         queue[i] = queue[top];
         queue[top] = cell;

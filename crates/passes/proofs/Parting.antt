@@ -12,7 +12,7 @@ use lib.Seq.{getD-set-same}
 use Rattle.offers.specs.Work.{largest, at}
 use Rattle.offers.specs.Wave.{Listed}
 use Rattle.offers.proofs.Changed.{each}
-use Rattle.passes.specs.Pass.{Below, Places, Parted}
+use Rattle.passes.specs.Pass.{Below, Place, Places, Parted}
 use Rattle.passes.proofs.Kept.{wider}
 
 -- the cells at i and top, swapped
@@ -46,21 +46,19 @@ module _ (q : List ℕ) (i top : ℕ) (in-i : i < length q) (in-top : top < leng
 
 -- the cells at i and top can be swapped, and the one at i is a place of the work array
 pub record CanSwap (x q : List ℕ) (i top : ℕ) : Type 0 where
-  pub few : length x ≤ largest
   pub narrow : length q ≤ largest
   pub index : i < length q
   pub place : top < length q
-  pub cell : getD q i 0 < length x
+  pub cell : Place x (getD q i 0)
 
 pub part-safe :
     (x : List ℕ) (limit mid i t : ℕ) (q₀ q : List ℕ) (top : ℕ) → Places x q₀ mid t → Parted x limit mid i q₀ q top → length q ≡ length q₀ → i < t
     → CanSwap x q i top
 part-safe x limit mid i t q₀ q top a s e n = record {
-  few = a .few;
   narrow = omega (arith, a .narrow);
   index = omega (arith, a .fits);
   place = omega (arith, a .fits, s .order);
-  cell = omega (arith, s .rest i (omega arith), a .cells i (omega (arith, s .order)) n);
+  cell = record { few = a .few; cell = omega (arith, s .rest i (omega arith), a .cells i (omega (arith, s .order)) n) };
 }
 
 pub parted-none : (x : List ℕ) (limit mid : ℕ) (q : List ℕ) → Parted x limit mid mid q q mid
@@ -70,6 +68,18 @@ parted-none x limit mid q = record {
   back = λ k m n. absurd (omega arith);
   kept = λ k m n. absurd (omega arith);
   old = λ k m n. absurd (omega arith);
+  head = λ k m. refl;
+  rest = λ k m. refl;
+}
+
+-- the first cell stands where the ready ones end, and is one of them if it is below the limit
+pub parted-one : (x : List ℕ) (limit mid : ℕ) (q : List ℕ) (r : ℕ) → Below (at x (getD q mid 0)) limit r → Parted x limit mid (mid + 1) q q (mid + r)
+parted-one x limit mid q r b = record {
+  order = omega (arith, b .most);
+  front = λ k m n. subst (λ (z : ℕ). at x (getD q z 0) < limit) (omega (arith, b .most)) (b .one (omega arith));
+  back = λ k m n. subst (λ (z : ℕ). limit ≤ at x (getD q z 0)) (omega arith) (b .none (omega arith));
+  kept = λ k m n. record { index = k; here = refl; after = m; before = n };
+  old = λ k m n. record { index = k; here = refl; after = m; before = n };
   head = λ k m. refl;
   rest = λ k m. refl;
 }

@@ -16,6 +16,11 @@ pub record Below (v limit r : ℕ) : Type 0 where
   pub one : 0 < r → v < limit
   pub none : r ≡ 0 → limit ≤ v
 
+-- c is a place of the work array, which is small
+pub record Place (x : List ℕ) (c : ℕ) : Type 0 where
+  pub few : length x ≤ largest
+  pub cell : c < length x
+
 -- q[mid..t] are places of the work array, and both are small
 pub record Places (x q : List ℕ) (mid t : ℕ) : Type 0 where
   pub few : length x ≤ largest

@@ -1,7 +1,8 @@
 // Wave after wave, from the goal. A wave is one straight step wide: when it begins, all numbers below its end are settled. Its cells take all
 // their steps, in whatever order; what they reach lies in the next wave or, by a diagonal step, in the one after that.
 // The goal takes its steps first and is never queued, so that the queue has at most one cell fewer than the floor.
-ghost use Rattle.passes.specs.Pass.{Below, Places, Parted, StepsBegun, StepsLeft, PassBegun, PassLeft};
+ghost use Rattle.offers.specs.Work.{at};
+ghost use Rattle.passes.specs.Pass.{Below, Place, Places, Parted, StepsBegun, StepsLeft, PassBegun, PassLeft};
 ghost use Rattle.passes.specs.Solved.{Loaded, Solved};
 
 // The part of the queue that the next wave has before it.
@@ -10,26 +11,31 @@ pub struct Part {
     pub tail: usize,
 }
 
-// 1 if a number is below the limit, else 0.
-fn below(number: u32, limit: u32) -> usize
-    ensures { λ r. ⌜ Below number limit r ⌝ }
+// 1 if a cell is ready, its number below the limit, else 0.
+fn ready(work: &[u32], cell: u32, limit: u32) -> usize
+    requires { ⌜ Place (now work) cell ⌝ }
+    ensures { λ r. ⌜ Below (at (now (work .entry)) cell) limit r ⌝ }
 {
-    if number < limit { 1 } else { 0 }
+    if work[cell as usize] < limit { 1 } else { 0 }
 }
 
 // Brings the cells of queue[mid..tail] that are ready, below the limit, before those that wait. Gives where the first one that waits stands.
 // Which cells are ready is hard to foresee, so that each is swapped, without a test, to where the ready ones end, and counts there if it is one.
+// The first one stands there already: in a narrow aisle, where a wave has one cell, nothing is moved.
 fn ready_first(work: &[u32], queue: &mut [u32], mid: usize, tail: usize, limit: u32) -> usize
     requires { ⌜ Places (now work) (now queue) mid tail ⌝ }
     ensures { λ r. ⌜ Parted (now (work .entry)) limit mid tail (now (queue .entry)) (now (queue .exit)) r ⌝ }
 {
-    let mut top = mid;
-    let mut i = mid;
+    if mid == tail {
+        return mid;
+    }
+    let mut top = mid + ready(work, queue[mid], limit);
+    let mut i = mid + 1;
     while i < tail {
         let cell = queue[i];
         queue[i] = queue[top];
         queue[top] = cell;
-        top += below(work[cell as usize], limit);
+        top += ready(work, cell, limit);
         i += 1;
     }
     top

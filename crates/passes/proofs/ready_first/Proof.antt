@@ -6,7 +6,7 @@ use native.Mathlib.Omega.{arith}
 use lib.ListN.{length, length-set}
 use borrow.Author.Needs.{needs}
 use Rattle.passes.specs.Pass.{Parted}
-use Rattle.passes.proofs.Parting.{CanSwap, part-safe, parted-none, parted-step, parted-all}
+use Rattle.passes.proofs.Parting.{CanSwap, part-safe, parted-none, parted-one, parted-step, parted-all}
 use Rattle.passes.proofs.ready_first.Statement.{statement}
 use Rattle.passes.proofs.ready_first.Tie as tie
 
@@ -16,16 +16,45 @@ Inv-loop work queue₀ mid tail limit top₀ i₀ queue top i = Parted work limi
 abbrev μ-loop : tie.MeasureT-loop
 μ-loop work queue₀ mid tail limit top₀ i₀ queue top i = tail - i
 
+returns : tie.Need-returns Inv-loop μ-loop
+returns c = parted-all _ _ _ _ _ _ _ _ (parted-none _ _ _ _) (omega (arith, c .if1 .taken)) (omega (arith, c .if1 .taken))
+
+-- the first cell can be read
+first :
+    (c : tie.Else1 Inv-loop μ-loop)
+    → CanSwap (c .before .before .before .args .work .now) (c .before .before .before .args .queue .now) (c .before .before .before .args .mid) (c .before .before .before .args .mid)
+first c =
+    let a = c .before .before .before .pre in part-safe _ 0 _ _ _ _ _ _ a (parted-none _ _ _ _) refl (omega (arith, a .order, c .if1 .left))
+
+mul-ready : tie.Need-mul-ready Inv-loop μ-loop
+mul-ready c = let k = first c in omega (arith, k .index, k .narrow)
+
+slice-read-ready : tie.Need-slice-read-ready Inv-loop μ-loop
+slice-read-ready c = first (c .before) .index
+
+ready-requires : tie.Need-ready-requires Inv-loop μ-loop
+ready-requires c κs = first (c .before) .cell
+
+add-top : tie.Need-add-top Inv-loop μ-loop
+add-top c = let k = first (c .before .before) in omega (arith, k .index, k .narrow, c .ready .ensures .most)
+
+add-i : tie.Need-add-i Inv-loop μ-loop
+add-i c = let k = first (c .before .before) in omega (arith, k .index, k .narrow)
+
 loop-holds : tie.Need-loop-holds Inv-loop μ-loop
-loop-holds c = (parted-none _ _ _ _, c .before .before .pre .order, refl)
+loop-holds c = let a = c .before .before .before .before .before .pre in (
+  parted-one _ _ _ _ _ (c .ready .ensures),
+  omega (arith, a .order, c .before .before .if1 .left),
+  refl,
+)
 
 -- the cell at i can be read and swapped
 safe :
     (c : tie.In-loop Inv-loop μ-loop)
-    → CanSwap (c .before .before .before .before .args .work .now) (c .before .loop .queue) (c .before .loop .i) (c .before .loop .top)
+    → CanSwap (c .before .before .before .before .before .before .before .args .work .now) (c .before .loop .queue) (c .before .loop .i) (c .before .loop .top)
 safe c =
     let i = c .before .loop .inv in
-    part-safe _ _ _ _ _ _ _ _ (c .before .before .before .before .pre) (i .0) (i .2) (c .loop-test .taken)
+    part-safe _ _ _ _ _ _ _ _ (c .before .before .before .before .before .before .before .pre) (i .0) (i .2) (c .loop-test .taken)
 
 mul-cell : tie.Need-mul-cell Inv-loop μ-loop
 mul-cell c = let k = safe c in omega (arith, k .index, k .narrow)
@@ -51,32 +80,23 @@ mul-queue-3 c = let k = safe (c .before .before) in omega (arith, k .place, k .n
 slice-write-queue-2 : tie.Need-slice-write-queue-2 Inv-loop μ-loop
 slice-write-queue-2 c = simp length-set (safe (c .before .before) .place)
 
-cast-below : tie.Need-cast-below Inv-loop μ-loop
-cast-below c = let k = safe (c .before .before) in omega (arith, k .cell, k .few)
+ready-requires-2 : tie.Need-ready-requires-2 Inv-loop μ-loop
+ready-requires-2 c κs = safe (c .before .before) .cell
 
-mul-below : tie.Need-mul-below Inv-loop μ-loop
-mul-below c = let k = safe (c .before .before) in omega (arith, k .cell, k .few)
+add-top-2 : tie.Need-add-top-2 Inv-loop μ-loop
+add-top-2 c = let k = safe (c .before .before .before) in omega (arith, k .place, k .narrow, c .ready2 .ensures .most)
 
-shared-slice-read-below : tie.Need-shared-slice-read-below Inv-loop μ-loop
-shared-slice-read-below c = safe (c .before .before .before) .cell
-
-below-requires : tie.Need-below-requires Inv-loop μ-loop
-below-requires c κs = search needs
-
-add-top : tie.Need-add-top Inv-loop μ-loop
-add-top c = let k = safe (c .before .before .before .before) in omega (arith, k .place, k .narrow, c .below .ensures .most)
-
-add-i : tie.Need-add-i Inv-loop μ-loop
-add-i c = let k = safe (c .before .before .before .before) in omega (arith, k .index, k .narrow)
+add-i-2 : tie.Need-add-i-2 Inv-loop μ-loop
+add-i-2 c = let k = safe (c .before .before .before) in omega (arith, k .index, k .narrow)
 
 loop-less : tie.Need-loop-less Inv-loop μ-loop
 loop-less c = search needs
 
 loop-again : tie.Need-loop-again Inv-loop μ-loop
 loop-again c =
-    let turn = c .before .before .before .before in
+    let turn = c .before .before .before in
     let i = turn .before .loop .inv in (
-      parted-step _ _ _ _ _ _ _ _ (i .0) (safe turn .index) (c .below .ensures),
+      parted-step _ _ _ _ _ _ _ _ (i .0) (safe turn .index) (c .ready2 .ensures),
       omega arith,
       simp length-set (i .2),
     )
@@ -84,8 +104,8 @@ loop-again c =
 same-length : tie.Need-same-length Inv-loop μ-loop
 same-length c = c .before .loop .inv .2
 
-returns : tie.Need-returns Inv-loop μ-loop
-returns c = let i = c .before .loop .inv in parted-all _ _ _ _ _ _ _ _ (i .0) (i .1) (c .loop-test .left)
+returns-2 : tie.Need-returns-2 Inv-loop μ-loop
+returns-2 c = let i = c .before .loop .inv in parted-all _ _ _ _ _ _ _ _ (i .0) (i .1) (c .loop-test .left)
 
 pub ready-first-spec : {M : Type 1} → statement M
 ready-first-spec =
@@ -93,6 +113,12 @@ ready-first-spec =
     (tie.spec
     Inv-loop
     μ-loop
+    returns
+    mul-ready
+    slice-read-ready
+    ready-requires
+    add-top
+    add-i
     loop-holds
     mul-cell
     slice-read-cell
@@ -102,13 +128,10 @@ ready-first-spec =
     slice-write-queue
     mul-queue-3
     slice-write-queue-2
-    cast-below
-    mul-below
-    shared-slice-read-below
-    below-requires
-    add-top
-    add-i
+    ready-requires-2
+    add-top-2
+    add-i-2
     loop-less
     loop-again
     same-length
-    returns)
+    returns-2)
