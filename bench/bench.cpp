@@ -68,6 +68,8 @@ void agree(const Floor &floor, const Table &table) {
     boost_packed(floor);
     boost_packed_table(other.data());
     if (other != table) fail(floor, "Boost fills another table, with packed lengths");
+    boost_whole(floor, other.data());
+    if (other != table) fail(floor, "Boost fills another table, from the map on");
 #endif
     for (const Compiled &peer : {BY_G, BY_CLANG}) {
         if (!peer.fill) continue;
@@ -83,7 +85,7 @@ void agree(const Floor &floor, const Table &table) {
 
 volatile std::size_t seen;
 
-enum { FILL, CHECK, APART, PACKED, FILL_G, FILL_CLANG, WINDOW_G, BORDER_G, WINDOW_CLANG, BORDER_CLANG, RUNNERS };
+enum { FILL, CHECK, APART, PACKED, WHOLE, FILL_G, FILL_CLANG, WINDOW_G, BORDER_G, WINDOW_CLANG, BORDER_CLANG, RUNNERS };
 
 // All that run on a floor, by number; one that is missing is empty. Each takes the floor as it stands, with one of its goals, and that goal's table.
 std::vector<Run> runners(const Floor &floor, const Table *const &table, Table &other) {
@@ -93,6 +95,7 @@ std::vector<Run> runners(const Floor &floor, const Table *const &table, Table &o
 #ifdef WITH_BOOST
     runs[APART] = [&] { boost_apart(floor); };
     runs[PACKED] = [&] { boost_packed(floor); };
+    runs[WHOLE] = [&] { boost_whole(floor, other.data()); };
 #endif
     for (int i = 0; i < 2; i++) {
         const Compiled peer = i == 0 ? BY_G : BY_CLANG;
@@ -143,6 +146,8 @@ std::string spread(std::vector<double> values) {
     return low == high ? middle : middle + " (" + low + "–" + high + ")";
 }
 
+constexpr std::size_t COLUMNS = 10;
+
 void measure(Floor &floor, int rounds, int turns, int in_a_row) {
     std::vector<Table> tables;
 #ifdef WITH_BOOST
@@ -155,13 +160,13 @@ void measure(Floor &floor, int rounds, int turns, int in_a_row) {
         agree(floor, table);
         tables.push_back(table);
     }
-    std::vector<std::vector<double>> shown(9);
+    std::vector<std::vector<double>> shown(COLUMNS);
     for (int round = 0; round < rounds; round++) {
         const std::vector<double> t = round_of(floor, tables, turns, in_a_row);
         const double check_g = std::min(t[WINDOW_G], t[BORDER_G]), check_clang = std::min(t[WINDOW_CLANG], t[BORDER_CLANG]);
-        const double row[] = {t[FILL], t[APART] / t[FILL], t[PACKED] / t[FILL], t[FILL] / t[FILL_G], t[FILL] / t[FILL_CLANG],
-                              t[CHECK], t[CHECK] / check_g, t[CHECK] / check_clang, t[FILL] / t[CHECK]};
-        for (std::size_t i = 0; i < 9; i++) shown[i].push_back(row[i]);
+        const double row[COLUMNS] = {t[FILL], t[APART] / t[FILL], t[PACKED] / t[FILL], t[WHOLE] / t[FILL], t[FILL] / t[FILL_G],
+                                     t[FILL] / t[FILL_CLANG], t[CHECK], t[CHECK] / check_g, t[CHECK] / check_clang, t[FILL] / t[CHECK]};
+        for (std::size_t i = 0; i < COLUMNS; i++) shown[i].push_back(row[i]);
     }
     std::printf("| %s |", floor.name.c_str());
     for (const std::vector<double> &column : shown) std::printf(" %s |", spread(column).c_str());
@@ -178,8 +183,9 @@ int main(int argc, char **argv) {
     const int rounds = std::atoi(argv[1]), calls = std::atoi(argv[2]), row = std::atoi(argv[3]);
     const std::size_t large = std::size_t(std::atoi(argv[4])), small = std::size_t(std::atoi(argv[5]));
     if (rounds < 1 || row < 1 || calls < row || large < 1 || small < 1) return 2;
-    std::printf("| floor | fill, µs | Boost, pairs / fill | Boost, packed / fill | fill / C++ by g++ | fill / C++ by clang++ | check, µs "
-                "| check / C++ by g++ | check / C++ by clang++ | fill / check |\n|---|---|---|---|---|---|---|---|---|---|\n");
+    std::printf("| floor | fill, µs | Boost, pairs / fill | Boost, packed / fill | Boost, map to table / fill | fill / C++ by g++ "
+                "| fill / C++ by clang++ | check, µs | check / C++ by g++ | check / C++ by clang++ | fill / check |\n"
+                "|---|---|---|---|---|---|---|---|---|---|---|\n");
     for (Floor &floor : all_floors()) {
         const std::size_t goals = floor.cells() == LARGE ? large : small;
         const int turns = calls * int(LARGE / floor.cells()) / row;

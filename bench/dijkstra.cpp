@@ -1,5 +1,6 @@
 // Boost.Graph's Dijkstra with exact pairs, on a compressed sparse row graph, in two forms: a length as a struct of two numbers, and as a
-// table's entry, both parts in one number. Lengths are compared by the whole numbers p² and 2q². The graphs are built beforehand.
+// table's entry, both parts in one number. Lengths are compared by the whole numbers p² and 2q². The graphs are built beforehand; in a third form,
+// as the first, the graph is built from the map and the table is written.
 #include <boost/graph/compressed_sparse_row_graph.hpp>
 #include <boost/graph/dijkstra_shortest_paths.hpp>
 #include <memory>
@@ -64,6 +65,8 @@ template <class Form> struct Solver {
     void prepare(const Floor &floor) {
         std::vector<std::pair<u32, u32>> ends;
         std::vector<Step> steps;
+        ends.reserve(8 * floor.cells());
+        steps.reserve(8 * floor.cells());
         for (std::size_t cell = 0; cell < floor.cells(); cell++) {
             const long column = long(cell % floor.width), row = long(cell / floor.width);
             if (!floor.open(column, row)) continue;
@@ -108,5 +111,11 @@ void boost_prepare(const Floor &floor) {
 
 void boost_apart(const Floor &floor) { apart.fill(floor); }
 void boost_packed(const Floor &floor) { packed.fill(floor); }
+void boost_whole(const Floor &floor, u32 *table) {
+    Solver<Apart> whole;
+    whole.prepare(floor);
+    whole.fill(floor);
+    whole.table(table);
+}
 void boost_apart_table(u32 *table) { apart.table(table); }
 void boost_packed_table(u32 *table) { packed.table(table); }

@@ -14,9 +14,11 @@ PEERS(by_g)
 PEERS(by_clang)
 
 // Boost.Graph's Dijkstra with exact pairs, in two forms: a length as a struct of two numbers, and packed into one as a table's entry is. The
-// graphs are built beforehand, once for each floor; what they leave is made a table for comparison alone.
+// graphs are built beforehand, once for each floor; what they leave is made a table for comparison alone. And the whole of what a fill does, from
+// the map to the table, in the first form.
 void boost_prepare(const Floor &floor);
 void boost_apart(const Floor &floor);
 void boost_packed(const Floor &floor);
+void boost_whole(const Floor &floor, std::uint32_t *table);
 void boost_apart_table(std::uint32_t *table);
 void boost_packed_table(std::uint32_t *table);
