@@ -176,8 +176,8 @@ void measure(Floor &floor, int rounds, int turns, int in_a_row) {
 
 }  // namespace
 
-// bench ROUNDS CALLS ROW GOALS SMALL: so many calls in a round on 128 × 128, and as many more on 16 × 16 as it has fewer cells, ROW of them in a
-// row at each turn, for so many of a floor's goals on 128 × 128 and on 16 × 16
+// bench ROUNDS CALLS ROW GOALS SMALL: so many calls in a round on 128 × 128, and 64 times as many on 16 × 16, ROW of them in a row at each turn, for
+// so many of a floor's goals on 128 × 128 and on 16 × 16
 int main(int argc, char **argv) {
     if (argc != 6) return 2;
     const int rounds = std::atoi(argv[1]), calls = std::atoi(argv[2]), row = std::atoi(argv[3]);

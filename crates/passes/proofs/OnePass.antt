@@ -89,11 +89,11 @@ steps-all w mid top i x q x′ q′ t′ d e = record { going = d .going; falls 
 module _ (w : Wave) (x q : List ℕ) (mid fresh t : ℕ) (r : PassReady w x q mid fresh t) where
   pub places : Places x q fresh t
   places = record {
-    few = r .going .room .few;
     narrow = r .going .room .narrow;
     order = r .order .1;
     fits = omega (arith, r .going .room);
-    cells = λ k m n. omega (arith, inside w x q t (r .going) (getD q k 0) (r .cells k (omega (arith, r .order)) n .reached .free) .high);
+    cells = λ k m n. let a = inside w x q t (r .going) (getD q k 0) (r .cells k (omega (arith, r .order)) n .reached .free) in
+        record { few = r .going .room .few; cell = omega (arith, a .high) };
   }
 
   module _ (q′ : List ℕ) (top : ℕ) (p : Parted x (w .limit) mid t q q′ top) (size : length q′ ≡ length q) where

@@ -1,5 +1,5 @@
--- Cells are parted one by one: the next one is swapped to where the ready ones end, and is one of them if it is below the limit. What stood there
--- waits, and still stands behind the ready ones.
+-- Cells are parted one by one: the first stands where it belongs; the next one is swapped to where the ready ones end, and is one of them if it is
+-- below the limit. What stood there waits, and still stands behind the ready ones.
 -- Assumes nothing.
 use mathlib.Core.Path.{_≡_, refl, ap, sym, subst, _∙_}
 use mathlib.Core.Logic.{_≢_}
@@ -58,7 +58,7 @@ part-safe x limit mid i t q₀ q top a s e n = record {
   narrow = omega (arith, a .narrow);
   index = omega (arith, a .fits);
   place = omega (arith, a .fits, s .order);
-  cell = record { few = a .few; cell = omega (arith, s .rest i (omega arith), a .cells i (omega (arith, s .order)) n) };
+  cell = subst (Place x) (sym (s .rest i (omega arith))) (a .cells i (omega (arith, s .order)) n);
 }
 
 pub parted-none : (x : List ℕ) (limit mid : ℕ) (q : List ℕ) → Parted x limit mid mid q q mid

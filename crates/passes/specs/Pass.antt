@@ -21,13 +21,12 @@ pub record Place (x : List ℕ) (c : ℕ) : Type 0 where
   pub few : length x ≤ largest
   pub cell : c < length x
 
--- q[mid..t] are places of the work array, and both are small
+-- q[mid..t] are places of the work array, and the queue is small
 pub record Places (x q : List ℕ) (mid t : ℕ) : Type 0 where
-  pub few : length x ≤ largest
   pub narrow : length q ≤ largest
   pub order : mid ≤ t
   pub fits : t ≤ length q
-  pub cells : (k : ℕ) → mid ≤ k → k < t → getD q k 0 < length x
+  pub cells : (k : ℕ) → mid ≤ k → k < t → Place x (getD q k 0)
 
 -- the cells q[mid..t] stand in another order: those below limit up to top, and the others from there on
 pub record Parted (x : List ℕ) (limit mid t : ℕ) (q q′ : List ℕ) (top : ℕ) : Type 0 where

@@ -22,7 +22,8 @@ returns c = parted-all _ _ _ _ _ _ _ _ (parted-none _ _ _ _) (omega (arith, c .i
 -- the first cell can be read
 first :
     (c : tie.Else1 Inv-loop μ-loop)
-    → CanSwap (c .before .before .before .args .work .now) (c .before .before .before .args .queue .now) (c .before .before .before .args .mid) (c .before .before .before .args .mid)
+    → let a = c .before .before .before .args in
+    CanSwap (a .work .now) (a .queue .now) (a .mid) (a .mid)
 first c =
     let a = c .before .before .before .pre in part-safe _ 0 _ _ _ _ _ _ a (parted-none _ _ _ _) refl (omega (arith, a .order, c .if1 .left))
 
@@ -51,7 +52,9 @@ loop-holds c = let a = c .before .before .before .before .before .pre in (
 -- the cell at i can be read and swapped
 safe :
     (c : tie.In-loop Inv-loop μ-loop)
-    → CanSwap (c .before .before .before .before .before .before .before .args .work .now) (c .before .loop .queue) (c .before .loop .i) (c .before .loop .top)
+    → let a = c .before .before .before .before .before .before .before .args in
+    let l = c .before .loop in
+    CanSwap (a .work .now) (l .queue) (l .i) (l .top)
 safe c =
     let i = c .before .loop .inv in
     part-safe _ _ _ _ _ _ _ _ (c .before .before .before .before .before .before .before .pre) (i .0) (i .2) (c .loop-test .taken)
