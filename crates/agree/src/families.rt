@@ -25,8 +25,8 @@ const FAMILIES: usize = 26;
 pub const FAULTY: usize = 25;
 
 // The families: shapes of up to 3 by 3 cells, which are tried thoroughly, and longer ones; a fork of two ways of almost one length, and the
-// largest floor, with one way that winds through all of it; many small floors and some larger ones; lengths; faults on the floor of 5 by 3 cells whose middle one is
-// blocked.
+// largest floor, with one way that winds through all of it; many small floors and some larger ones; lengths; faults on the floor of 5 by 3
+// cells whose middle one is blocked.
 const ALL: [Family; FAMILIES] = [
     Family {
         plan: trial::EVERY,

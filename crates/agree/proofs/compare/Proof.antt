@@ -11,4 +11,15 @@ abbrev μ-loop : tie.MeasureT-loop
 μ-loop map₀ words₀ legs₀ which₀ map words legs which = 25 - which
 
 pub compare-spec : {M : Type 1} → statement M
-compare-spec = tie.close (tie.spec Inv-loop μ-loop (λ c. search needs) (λ c κs. search needs) (λ c. search needs) (λ c. search needs) (λ c. search needs) (λ c κs. search needs) (λ c. search needs))
+compare-spec =
+    tie.close
+    (tie.spec
+    Inv-loop
+    μ-loop
+    (λ c. search needs)
+    (λ c κs. search needs)
+    (λ c. search needs)
+    (λ c. search needs)
+    (λ c. search needs)
+    (λ c κs. search needs)
+    (λ c. search needs))

@@ -11,4 +11,15 @@ abbrev μ-loop : tie.MeasureT-loop
 μ-loop family map₀ words₀ legs₀ state₀ nth₀ nth-end map words legs state nth = nth-end - nth
 
 pub try-floors-spec : {M : Type 1} → statement M
-try-floors-spec = tie.close (tie.spec Inv-loop μ-loop (λ c κs. search needs) (λ c. search needs) (λ c κs. search needs) (λ c. search needs) (λ c. search needs) (λ c. search needs) (λ c. search needs))
+try-floors-spec =
+    tie.close
+    (tie.spec
+    Inv-loop
+    μ-loop
+    (λ c κs. search needs)
+    (λ c. search needs)
+    (λ c κs. search needs)
+    (λ c. search needs)
+    (λ c. search needs)
+    (λ c. search needs)
+    (λ c. search needs))

@@ -11,4 +11,14 @@ abbrev μ-loop : tie.MeasureT-loop
 μ-loop words lines title line₀ line = lines - line
 
 pub print-some-spec : {M : Type 1} → statement M
-print-some-spec = tie.close (tie.spec Inv-loop μ-loop (λ c. search needs) (λ c κs. search needs) (λ c. search needs) (λ c. search needs) (λ c. search needs) (λ c. search needs))
+print-some-spec =
+    tie.close
+    (tie.spec
+    Inv-loop
+    μ-loop
+    (λ c. search needs)
+    (λ c κs. search needs)
+    (λ c. search needs)
+    (λ c. search needs)
+    (λ c. search needs)
+    (λ c. search needs))

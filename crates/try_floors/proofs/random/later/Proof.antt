@@ -11,4 +11,14 @@ abbrev μ-loop : tie.MeasureT-loop
 μ-loop state n later₀ counter₀ later counter = n - counter
 
 pub later-spec : {M : Type 1} → statement M
-later-spec = tie.close (tie.spec Inv-loop μ-loop (λ c. search needs) (λ c κs. search needs) (λ c. search needs) (λ c. search needs) (λ c. search needs) (λ c. search needs))
+later-spec =
+    tie.close
+    (tie.spec
+    Inv-loop
+    μ-loop
+    (λ c. search needs)
+    (λ c κs. search needs)
+    (λ c. search needs)
+    (λ c. search needs)
+    (λ c. search needs)
+    (λ c. search needs))

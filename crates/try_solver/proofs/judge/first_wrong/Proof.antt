@@ -11,4 +11,15 @@ abbrev μ-loop : tie.MeasureT-loop
 μ-loop words cells stride goal cell₀ cell = cells - cell
 
 pub first-wrong-spec : {M : Type 1} → statement M
-first-wrong-spec = tie.close (tie.spec Inv-loop μ-loop (λ c. search needs) (λ c κs. search needs) (λ c. search needs) (λ c. search needs) (λ c. search needs) (λ c. search needs) (λ c. search needs))
+first-wrong-spec =
+    tie.close
+    (tie.spec
+    Inv-loop
+    μ-loop
+    (λ c. search needs)
+    (λ c κs. search needs)
+    (λ c. search needs)
+    (λ c. search needs)
+    (λ c. search needs)
+    (λ c. search needs)
+    (λ c. search needs))

@@ -11,4 +11,15 @@ abbrev μ-loop : tie.MeasureT-loop
 μ-loop words base corner stride least₀ k₀ least k = 9 - k
 
 pub least-over-spec : {M : Type 1} → statement M
-least-over-spec = tie.close (tie.spec Inv-loop μ-loop (λ c. search needs) (λ c κs. search needs) (λ c κs. search needs) (λ c. search needs) (λ c. search needs) (λ c. search needs) (λ c. search needs))
+least-over-spec =
+    tie.close
+    (tie.spec
+    Inv-loop
+    μ-loop
+    (λ c. search needs)
+    (λ c κs. search needs)
+    (λ c κs. search needs)
+    (λ c. search needs)
+    (λ c. search needs)
+    (λ c. search needs)
+    (λ c. search needs))

@@ -12,4 +12,11 @@ mul-root-of-2 : tie.Need-mul-root-of-2
 mul-root-of-2 c = omega (arith, bounded (c .args .m) 16384000 (c .args .m) 16384000 (omega arith) (omega arith))
 
 pub nearest-spec : {M : Type 1} → statement M
-nearest-spec = tie.close (tie.spec mul-root-of mul-root-of-2 (λ c κs. search needs) (λ c. search needs) (λ c. search needs))
+nearest-spec =
+    tie.close
+    (tie.spec
+    mul-root-of
+    mul-root-of-2
+    (λ c κs. search needs)
+    (λ c. search needs)
+    (λ c. search needs))
