@@ -5,3 +5,4 @@ pub mod Fitting
 pub mod ShortRuns
 pub mod OnFloor
 pub mod Stepping
+pub mod Past

@@ -48,6 +48,20 @@ module _ (test : ℕ → Bool) (at : ℕ → ℕ) (i n : ℕ) (inv : seek test a
     pub seek-goes : r ≡ false → seek test at (8 - (i + 1)) (i + 1) ≡ n
     seek-goes g = let e : test (at i) ≡ false = sym f ∙ g in sym (turn h ∙ rw e) ∙ inv
 
+-- two headings at a turn, the first of them even
+module _ (test : ℕ → Bool) (at : ℕ → ℕ) (i n : ℕ) (inv : seek test at (8 - i) i ≡ n) (even : i % 2 ≡ 0) (h : i < 8)
+    (r : Bool) (f : r ≡ test (at i)) (off : r ≡ false) (q : Bool) (g : q ≡ test (at (i + 1))) where
+  once : seek test at (8 - (i + 1)) (i + 1) ≡ n
+  once = seek-goes test at i n inv h r f off
+
+  pub pair-found : q ≡ true → at (i + 1) ≡ n
+  pair-found = seek-found test at (i + 1) n once (omega arith) q g
+
+  pub pair-goes : q ≡ false → seek test at (8 - (i + 2)) (i + 2) ≡ n
+  pair-goes e =
+      let s : i + 1 + 1 ≡ i + 2 = omega arith in
+      subst (λ (j : ℕ). seek test at (8 - j) j ≡ n) s (seek-goes test at (i + 1) n once (omega arith) q g e)
+
 -- what a search finds
 data Sought (test : ℕ → Bool) (at : ℕ → ℕ) (k i r : ℕ) : Type 0 where
   nothing : r ≡ 8 → ((j : ℕ) → i ≤ j → j < i + k → test (at j) ≡ false) → Sought test at k i r

@@ -2,14 +2,14 @@
 -- Assumes nothing.
 use mathlib.Core.Path.{_≡_, refl, ap, sym, subst, _∙_}
 use mathlib.Core.List.{List, _∷_}
-use Prim.Native.Nat.{ℕ, zero, suc, _+_, _%_, _≤_, _<_}
+use Prim.Native.Nat.{ℕ, zero, suc, _+_, _-_, _%_, _≤_, _<_}
 use native.Mathlib.Omega.{arith}
 use native.Mathlib.Numerals.{add-one}
 use lib.ListN.{getD}
 use Rattle.lengths.specs.declared.Length.{Length}
 use Rattle.lengths.specs.Order.{_⊕_, steps}
 use Rattle.lengths.proofs.Order.{length-ext}
-use Rattle.steps.specs.declared.Lead.the-variants.{To, Nowhere}
+use Rattle.steps.specs.declared.Lead.the-variants.{To}
 use Rattle.floor.specs.Floor.{Map}
 use Rattle.steps.specs.Heading.{weight}
 use Rattle.floor.specs.Inner.{Sound}
@@ -17,8 +17,9 @@ use Rattle.steps.specs.Leading.{leadOf}
 use Rattle.steps.specs.Step.{one-step}
 use Rattle.walker.specs.declared.Walker.{Walker}
 use Rattle.walker.specs.Legs.{again}
-use Rattle.walker.specs.Reading.{Order, Run, done, more, cost, fits, next, Stands, Steps, Stepped, Split, Going, Leads}
+use Rattle.walker.specs.Reading.{Order, Run, done, more, cost, fits, next, past, Stands, Steps, Stepped, Split, Going, Leads}
 use Rattle.walker.proofs.OnFloor.{lands, leg-short}
+use Rattle.walker.proofs.Past.{lead-past}
 use Rattle.walker.proofs.Searching.{Next, stop, goes, next-is, cost-pos, fits-yes, run-exists}
 
 -- a length with one step more
@@ -54,8 +55,13 @@ module _ (m : Map) (t : List ℕ) (o : Order) where
   step-still w h = record { still = λ e. refl; moved = λ b. absurd (omega arith) }
 
   module _ (w : Walker) (s : Stands m t o w) (b : w .next < 8) where
-    pub step-nowhere : leadOf m (w .next) (w .cell) ≡ Nowhere → Stepped m t o w w
-    step-nowhere e = let (y, p, q) = fits-next w s b in absurd (let z : _≡_ {A = ℕ} 0 1 = cc in omega arith)
+    -- where it leads, as the code counts it
+    pub step-led : (p : ℕ) → p ≡ past (m .width) (w .cell) (w .next) → (m .width + 1 ≤ p) × (leadOf m (w .next) (w .cell) ≡ To (p - (m .width + 1)))
+    step-led p e =
+        let (y, q, d) = fits-next w s b in
+        let f = lead-past m (w .next) (w .cell) b y q in
+        let g : y ≡ p - (m .width + 1) = omega arith in
+        (omega arith, q ∙ ap To g)
 
     pub step-to : (v : Walker) → leadOf m (w .next) (w .cell) ≡ To (v .cell) → v .length ≡ w .length ⊕ weight (w .next)
         → v .next ≡ next (leadOf m) t (o .at) (v .cell) → Stepped m t o w v

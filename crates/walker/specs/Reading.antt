@@ -2,18 +2,18 @@
 -- Assumes nothing.
 use mathlib.Core.Path.{_≡_, refl}
 use mathlib.Core.Logic.{_≢_}
-use mathlib.Core.Bool.{Bool, false}
+use mathlib.Core.Bool.{Bool, true, false}
 use mathlib.Core.List.{List, [], _∷_}
-use Prim.Native.Nat.{ℕ, zero, suc, _+_, _≤_, _<_}
+use Prim.Native.Nat.{ℕ, zero, suc, _+_, _*_, _%_, _/_, _≤_, _<_}
 use lib.Dec.{eqb}
-use lib.ListN.{getD}
+use lib.ListN.{getD, length}
 use Rattle.given.specs.Given.{pick}
 use Rattle.lengths.specs.declared.Length.{Length}
 use Rattle.lengths.specs.Order.{zeroLength, _⊕_, steps}
 use Rattle.steps.specs.declared.Lead.{Lead}
 use Rattle.steps.specs.declared.Lead.the-variants.{To, Nowhere}
-use Rattle.floor.specs.Floor.{Map, cells}
-use Rattle.steps.specs.Heading.{weight}
+use Rattle.floor.specs.Floor.{Map, Open, cells}
+use Rattle.steps.specs.Heading.{changeOf, weight}
 use Rattle.steps.specs.Leading.{leadOf}
 use Rattle.entries.specs.Entry.{long, pack}
 use Rattle.walker.specs.declared.Walker.{Walker}
@@ -67,6 +67,26 @@ pub data Run (lead : ℕ → ℕ → Lead) (table : List ℕ) (at : ℕ → ℕ)
   done : {x : ℕ} → next lead table at x ≡ 8 → Run lead table at x [] zeroLength
   more : {h x y : ℕ} {hs : List ℕ} {l : Length} → next lead table at x ≡ h → h < 8 → lead h x ≡ To y → Run lead table at y hs l
       → Run lead table at x (h ∷ hs) (l ⊕ weight h)
+
+-- where heading h leads from x, counted a row and a column further, so that it is a whole number
+abbrev pub past : ℕ → ℕ → ℕ → ℕ
+past width x h = x + changeOf h .row * width + changeOf h .column
+
+-- whether heading h leads from x to a place of the table, and the numbers there and here differ by the step
+pub record Differ (width : ℕ) (table : List ℕ) (x h : ℕ) (r : Bool) : Type 0 where
+  pub found : r ≡ true → (y : ℕ) × (y < length table) × (y + (width + 1) ≡ past width x h) × (getD table x 0 ≡ getD table y 0 + cost h)
+  pub none : r ≡ false → (y : ℕ) → y < length table → y + (width + 1) ≡ past width x h → getD table x 0 ≡ getD table y 0 + cost h → ⊥
+
+-- whether heading h leads from x to a column of the floor
+pub record InWidth (width x h : ℕ) (r : Bool) : Type 0 where
+  pub on : r ≡ true → (1 ≤ x % width + changeOf h .column) × (x % width + changeOf h .column ≤ width)
+  pub off : r ≡ false → 1 ≤ x % width + changeOf h .column → x % width + changeOf h .column ≤ width → ⊥
+
+-- a table that can be read: a number for each cell, and where the numbers of two cells differ by a straight step, both are open. A filled table is so
+pub record Readable (m : Map) (table : List ℕ) : Type 0 where
+  pub size : length table ≡ cells m
+  pub ends : (x y : ℕ) → x < cells m → y < cells m → getD table x 0 ≡ getD table y 0 + 65536
+      → Open m (x % m .width) (x / m .width) × Open m (y % m .width) (y / m .width)
 
 -- the walker stands on the floor and knows its next heading, and its counts have room for the steps that are left
 pub record Stands (m : Map) (table : List ℕ) (o : Order) (w : Walker) : Type 0 where

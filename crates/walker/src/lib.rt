@@ -8,7 +8,7 @@ ghost use Rattle.steps.specs.Heading.{weight};
 ghost use Rattle.floor.specs.Inner.{Sound};
 ghost use Rattle.steps.specs.Leading.{leadOf};
 ghost use Rattle.walker.specs.Reading.{numbered, cost, fits, next};
-ghost use Rattle.walker.specs.Reading.{Stands, Starts, Stepped, Leads};
+ghost use Rattle.walker.specs.Reading.{Readable, past, Differ, InWidth, Stands, Starts, Stepped, Leads};
 use lengths::Length;
 use steps::Lead;
 
@@ -43,7 +43,46 @@ fn cost_of(heading: usize) -> u64
     1
 }
 
-// Whether the step is permitted and the numbers of its ends differ by it.
+// Where a heading leads from a cell, counted a row and a column further, so that it is a whole number.
+fn past_step(width: usize, cell: usize, heading: usize) -> usize
+    requires { ⌜ (width ≤ 128) × ((cell < 16384) × (heading < 8)) ⌝ }
+    ensures { λ r. ⌜ (r ≡ past width cell heading) × (r ≤ 16642) ⌝ }
+{
+    let change = steps::change_of(heading);
+    cell + change.row * width + change.column
+}
+
+// Whether the heading leads to a cell of the table, and the numbers of the two cells differ by the step.
+// What is off the table to the north wraps and is large.
+fn fits_numbers(width: usize, table: &[u32], cell: usize, heading: usize) -> bool
+    requires { ⌜ (width ≤ 128) × (length (now table) ≤ 16384) ⌝ }
+    requires { ⌜ (cell < length (now table)) × (heading < 8) ⌝ }
+    ensures { λ r. ⌜ Differ width (now (table .entry)) cell heading r ⌝ }
+{
+    let to = std::num::wrapping_sub_usize(past_step(width, cell, heading), width + 1);
+    if table.len() <= to {
+        return false;
+    }
+    let here = wide(table[cell]);
+    let there = wide(table[to]);
+    here == there + cost_of(heading)
+}
+
+// Whether the heading leads from the cell to a column of the floor, not past an end of the row.
+fn in_width(width: usize, cell: usize, heading: usize) -> bool
+    requires { ⌜ (1 ≤ width) × ((width ≤ 128) × (heading < 8)) ⌝ }
+    ensures { λ r. ⌜ InWidth width cell heading r ⌝ }
+{
+    let change = steps::change_of(heading);
+    let column = cell % width + change.column;
+    if column < 1 {
+        return false;
+    }
+    column <= width
+}
+
+// Whether the step is permitted and the numbers of its ends differ by it. The numbers are compared first: they seldom do;
+// and where they differ by a straight step, both ends are open.
 fn fits_step(
     width: usize,
     height: usize,
@@ -53,21 +92,29 @@ fn fits_step(
     heading: usize,
 ) -> bool
     requires { ⌜ Sound (mapOf width height (now map)) ⌝ }
-    requires { ⌜ (length (now table) ≡ height * width) × ((cell < height * width) × (heading < 8)) ⌝ }
+    requires { ⌜ Readable (mapOf width height (now map)) (now table) ⌝ }
+    requires { ⌜ (cell < height * width) × (heading < 8) ⌝ }
     ensures { λ r. ⌜ r ≡ fits (leadOf (mapOf width height (now (map .entry)))) (now (table .entry)) cell heading ⌝ }
 {
-    let Lead::To(to) = steps::lead_of(width, height, map, heading, cell) else {
+    if !fits_numbers(width, table, cell, heading) {
+        return false;
+    }
+    if heading % 2 == 0 {
+        return in_width(width, cell, heading);
+    }
+    let Lead::To(_) = steps::lead_of(width, height, map, heading, cell) else {
         return false;
     };
-    let here = wide(table[cell]);
-    let there = wide(table[to]);
-    here == there + cost_of(heading)
+    true
 }
 
-// The lowest heading whose step fits the table; 8 where none does, at the goal.
+// The lowest heading whose step fits the table; 8 where none does, at the goal. A straight one and a diagonal one at each turn.
+// It must call `fits_step` twice a turn: with one call the compiler inlines `lead_of`, does not unroll the loop, and copies the
+// table of headings at each turn, which makes a long route slower by half or more. Time it after any change here.
 fn next_heading(width: usize, height: usize, map: &[u8], table: &[u32], cell: usize) -> usize
     requires { ⌜ Sound (mapOf width height (now map)) ⌝ }
-    requires { ⌜ (length (now table) ≡ height * width) × (cell < height * width) ⌝ }
+    requires { ⌜ Readable (mapOf width height (now map)) (now table) ⌝ }
+    requires { ⌜ cell < height * width ⌝ }
     ensures { λ r. ⌜ r ≡ next (leadOf (mapOf width height (now (map .entry)))) (now (table .entry)) (numbered .at) cell ⌝ }
 {
     let mut heading: usize = 0;
@@ -75,7 +122,10 @@ fn next_heading(width: usize, height: usize, map: &[u8], table: &[u32], cell: us
         if fits_step(width, height, map, table, cell, heading) {
             return heading;
         }
-        heading += 1;
+        if fits_step(width, height, map, table, cell, heading + 1) {
+            return heading + 1;
+        }
+        heading += 2;
     }
     8
 }
@@ -100,7 +150,8 @@ fn one_more(length: Length, heading: usize) -> Length
 // A walker at a cell, before its first step.
 pub fn stand(width: usize, height: usize, map: &[u8], table: &[u32], cell: usize) -> Walker
     requires { ⌜ Sound (mapOf width height (now map)) ⌝ }
-    requires { ⌜ (length (now table) ≡ height * width) × (cell < height * width) ⌝ }
+    requires { ⌜ Readable (mapOf width height (now map)) (now table) ⌝ }
+    requires { ⌜ cell < height * width ⌝ }
     ensures { λ r. ⌜ Starts (mapOf width height (now (map .entry))) (now (table .entry)) numbered cell r ⌝ }
 {
     let next = next_heading(width, height, map, table, cell);
@@ -118,16 +169,14 @@ impl Walker {
     // The walker moved by one step; at the goal the same.
     fn step(self, width: usize, height: usize, map: &[u8], table: &[u32]) -> Walker
         requires { ⌜ Sound (mapOf width height (now map)) ⌝ }
-        requires { ⌜ length (now table) ≡ height * width ⌝ }
+        requires { ⌜ Readable (mapOf width height (now map)) (now table) ⌝ }
         requires { ⌜ Stands (mapOf width height (now map)) (now table) numbered self ⌝ }
         ensures { λ r. ⌜ Stepped (mapOf width height (now (map .entry))) (now (table .entry)) numbered self r ⌝ }
     {
         if 8 <= self.next {
             return self;
         }
-        let Lead::To(cell) = steps::lead_of(width, height, map, self.next, self.cell) else {
-            return self;
-        };
+        let cell = past_step(width, self.cell, self.next) - (width + 1);
         let length = one_more(self.length, self.next);
         let next = next_heading(width, height, map, table, cell);
         Walker { cell, length, next }
@@ -136,7 +185,7 @@ impl Walker {
     // The leg ahead: the longest run of the walker's next heading.
     pub fn leg(self, width: usize, height: usize, map: &[u8], table: &[u32]) -> WalkedLeg
         requires { ⌜ Sound (mapOf width height (now map)) ⌝ }
-        requires { ⌜ length (now table) ≡ height * width ⌝ }
+        requires { ⌜ Readable (mapOf width height (now map)) (now table) ⌝ }
         requires { ⌜ Stands (mapOf width height (now map)) (now table) numbered self ⌝ }
         requires { ⌜ self .next < 8 ⌝ }
         ensures { λ r. ⌜ Leads (mapOf width height (now (map .entry))) (now (table .entry)) numbered self r ⌝ }

@@ -3,27 +3,31 @@
 use mathlib.Core.Path.{_≡_, refl, sym, subst, ap, _∙_}
 use mathlib.Core.Logic.{_≢_}
 use mathlib.Core.List.{List}
-use Prim.Native.Nat.{ℕ, _*_, _≤_, _<_}
+use Prim.Native.Nat.{ℕ, _+_, _*_, _%_, _/_, _≤_, _<_}
 use native.Mathlib.Omega.{arith}
 use lib.ListN.{getD, length}
 use Rattle.lengths.specs.declared.Length.{Length}
-use Rattle.lengths.specs.Order.{_⊕_}
+use Rattle.lengths.specs.Order.{_⊕_, steps}
 use Rattle.lengths.proofs.Order.{length-ext}
 use Rattle.floor.specs.Floor.{Map, cells}
 use Rattle.floor.specs.Inner.{Sound}
 use Rattle.steps.specs.Leading.{leadOf}
 use Rattle.steps.specs.Step.{stepsOf}
 use Rattle.steps.specs.Way.{Only}
+use Rattle.steps.proofs.OnMap.{small-shortest}
+use Rattle.entries.specs.Entry.{long, pack}
 use Rattle.entries.specs.Filled.{Filled}
 use Rattle.walker.specs.declared.Walker.{Walker}
 use Rattle.walker.specs.Route.{FirstRoute}
 use Rattle.walker.specs.Legs.{Leg}
 use Rattle.walker.specs.Reading.{Order, Run, Starts}
+use Rattle.walker.proofs.Fitting.{getD-any}
 use Rattle.walker.proofs.OnFloor.{first-run, no-way}
 use Rattle.walking.specs.declared.Way.{Way}
 use Rattle.walking.specs.declared.Reading.the-variants as reading
 use Rattle.walking.specs.Read.{Routes, Reads}
-use Rattle.walking.specs.Ahead.{Ahead, Counted, Written}
+use Rattle.walking.specs.Ahead.{Ahead, Counted, Room, Wanted, Written}
+use Rattle.walking.proofs.LegSteps.{few-legs, route-entry, route-steps}
 use Rattle.walking.proofs.LegsAhead.{ahead-exists}
 
 module _ (m : Map) (c : Sound m) (goal : ℕ) (on : goal < cells m) (t : List ℕ) (f : Filled (stepsOf m) (Only goal) (cells m) t) (o : Order) (start : ℕ) (b : start < cells m) where
@@ -42,22 +46,48 @@ module _ (m : Map) (c : Sound m) (goal : ℕ) (on : goal < cells m) (t : List �
         legs-are = h .legs;
       }
 
-  module _ (w : Walker) (s : Starts m t o start w) (n : getD t start 0 ≢ 4294967295) (k : Way) (d : Counted m t o w k) where
-    pub reads-no-room : (old : List ℕ) → length old < 2 * k .legs → Reads (stepsOf m) (Only goal) (o .rank) start old (reading.NoRoom (k .legs)) old
-    reads-no-room old h =
+  module _ (w : Walker) (s : Starts m t o start w) (n : getD t start 0 ≢ 4294967295) where
+    -- no more legs are ahead than the start's number says steps
+    few-ahead : (ls : List Leg) (l : Length) → Ahead m t o w ls l → length ls ≤ getD t start 0 / 65536 + getD t start 0 % 65536
+    few-ahead ls l a =
+        let r = ahead-route w s n ls l a in
+        let e : getD t start 0 ≡ pack (long l) = getD-any t start 0 4294967295 (omega (arith, f .size)) ∙ route-entry (stepsOf m) r f b in
+        let few = small-shortest m c (Only goal) (λ x p. omega (arith, p)) start l (r .first .route .short) in
+        let k = few-legs (stepsOf m) ls (r .legs-are .proper) in
+        let q = ap steps (route-steps (stepsOf m) r) in
+        omega (arith, e, few .straight, few .diagonal, k, q)
+
+    -- two bytes for each step are enough
+    pub wanted-none : (bytes k : ℕ) → k ≡ getD t start 0 / 65536 + getD t start 0 % 65536 → 2 * k ≤ bytes → Wanted m t o w bytes 0
+    wanted-none bytes k e h = record {
+      enough = λ i ls l a. let p = few-ahead ls l a in omega arith;
+      exact = λ i ls l a. absurd (omega arith);
+      small = omega arith;
+    }
+
+    -- else the legs are counted
+    pub wanted-all : (bytes : ℕ) (k : Way) → Counted m t o w k → Wanted m t o w bytes (k .legs)
+    wanted-all bytes k d = record {
+      enough = λ i ls l a. omega (arith, d .exact ls l a .0);
+      exact = λ i ls l a. d .exact ls l a .0;
+      small = d .small;
+    }
+
+    pub reads-no-room : (k : ℕ) (old : List ℕ) → Wanted m t o w (length old) k → length old < 2 * k → Reads (stepsOf m) (Only goal) (o .rank) start old (reading.NoRoom k) old
+    reads-no-room k old d h =
         let (ls, l, a) = ahead-exists m t o w in
-        let (e, g) = d .exact ls l a in
+        let e = d .exact h ls l a in
         record { size = l; legs = ls; route = ahead-route w s n ls l a; counted = e; short = omega arith; same = refl }
 
-    pub reads-way : (old new : List ℕ) → 2 * k .legs ≤ length old → Written m t o w old new
+    pub reads-way : (k : Way) (old new : List ℕ) → Room m t o w old → Counted m t o w k → Written m t o w old new
         → Reads (stepsOf m) (Only goal) (o .rank) start old (reading.Way k) new
-    reads-way old new h p =
+    reads-way k old new room d p =
         let (ls, l, a) = ahead-exists m t o w in
         let (e, g) = d .exact ls l a in
         record {
           legs = ls;
           route = subst (λ (z : Length). Routes (stepsOf m) (Only goal) (o .rank) start z ls) (sym g) (ahead-route w s n ls l a);
           count = e;
-          room = omega arith;
+          room = room ls l a;
           written = p ls l a;
         }

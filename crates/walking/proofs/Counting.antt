@@ -2,7 +2,7 @@
 -- Assumes nothing.
 use mathlib.Core.Path.{_≡_, ap}
 use mathlib.Core.List.{List}
-use Prim.Native.Nat.{ℕ, suc, _+_, _*_, _≤_}
+use Prim.Native.Nat.{ℕ, suc, _+_, _≤_}
 use native.Mathlib.Omega.{arith}
 use lib.ListN.{getD, length}
 use Rattle.lengths.specs.declared.Length.{Length}
@@ -11,8 +11,7 @@ use Rattle.walker.specs.declared.Walker.{Walker}
 use Rattle.walker.specs.declared.WalkedLeg.{WalkedLeg}
 use Rattle.walker.specs.Legs.{Leg}
 use Rattle.walker.specs.Reading.{Order, Stands, Leads}
-use Rattle.walking.specs.declared.Way.{Way}
-use Rattle.walking.specs.Ahead.{Ahead, Counted, Room}
+use Rattle.walking.specs.Ahead.{Ahead, Counted}
 use Rattle.walking.proofs.LegsAhead.{ahead-leg, ahead-end}
 
 -- k legs of w are counted, and v stands after them
@@ -46,7 +45,3 @@ module _ (m : Map) (t : List ℕ) (o : Order) where
         (let n : length ks ≡ 0 = ap length f in omega arith, g);
     small = omega (arith, c .falls, s .few);
   }
-
-  -- a buffer of two bytes for each leg has room for them
-  pub room-enough : (w : Walker) (k : Way) (old : List ℕ) → Counted m t o w k → 2 * k .legs ≤ length old → Room m t o w old
-  room-enough w k old d h ls total a = let (e, g) = d .exact ls total a in omega arith

@@ -2,11 +2,12 @@
 -- Assumes nothing.
 use mathlib.Core.Path.{_≡_, refl, ap, sym, subst, _∙_}
 use mathlib.Core.List.{List, [], _∷_}
-use Prim.Native.Nat.{ℕ, zero, suc, _*_, _<_}
+use Prim.Native.Nat.{ℕ, zero, suc, _*_, _≤_, _<_}
 use native.Mathlib.Omega.{arith}
-use lib.ListN.{getD}
+use native.Mathlib.Nat.{mul-add}
+use lib.ListN.{getD, length}
 use Rattle.lengths.specs.declared.Length.{Length}
-use Rattle.lengths.specs.Order.{zeroLength, _⊕_}
+use Rattle.lengths.specs.Order.{zeroLength, _⊕_, steps}
 use Rattle.lengths.proofs.Order.{length-ext}
 use Rattle.steps.specs.Way.{Graph}
 use Rattle.steps.proofs.Ways.{shortest-unique}
@@ -14,7 +15,7 @@ use Rattle.entries.specs.Entry.{Entry, mark, long, pack}
 use Rattle.entries.specs.Filled.{Says, Filled}
 use Rattle.walker.specs.Route as walk
 use Rattle.walker.specs.Route.{Walk}
-use Rattle.walker.specs.Legs.{Leg, again, join}
+use Rattle.walker.specs.Legs.{Leg, Proper, again, join}
 use Rattle.walking.specs.Read.{Routes}
 
 -- so many steps of one kind
@@ -47,6 +48,14 @@ module _ (G : Graph) where
   joined-length (a ∷ ls) w =
       let p = after (a .count) (a .heading) (join ls) w in
       p .sum ∙ ap (λ (z : Length). z ⊕ times (a .count) (G .weight (a .heading))) (joined-length ls (p .rest))
+
+  -- no more legs than steps
+  pub few-legs : (ls : List Leg) → Proper ls → length ls ≤ steps (stepsIn (G .weight) ls)
+  few-legs [] p = omega arith
+  few-legs (a ∷ ls) p =
+      let w = G .weight (a .heading) in
+      let e : a .count * steps w ≡ a .count * 1 = ap (λ (z : ℕ). a .count * z) (G .one (a .heading)) in
+      omega (arith, few-legs ls (p .1 .1), p .0, e, mul-add (a .count) (w .straight) (w .diagonal))
 
   module _ {Goal : ℕ → Type 0} {rank : ℕ → ℕ} {start : ℕ} {l : Length} {ls : List Leg} (r : Routes G Goal rank start l ls) where
     -- a route's length is the steps in its legs

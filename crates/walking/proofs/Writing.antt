@@ -1,6 +1,6 @@
 -- Writing the legs ahead of a walker from the front of the leg buffer.
 -- Assumes nothing.
-use mathlib.Core.Path.{_≡_, refl, ap, ap₂, sym, _∙_}
+use mathlib.Core.Path.{_≡_, refl, ap, ap₂, sym, _∙_, subst}
 use mathlib.Core.List.{List, [], _∷_, _++_, append-assoc, append-nil}
 use Prim.Native.Nat.{ℕ, suc, _+_, _*_, _≤_, _<_}
 use native.Mathlib.Omega.{arith}
@@ -103,6 +103,10 @@ module _ (m : Map) (t : List ℕ) (o : Order) where
                 ∙ sym (append-assoc xs (r .heading ∷ (r .count ∷ [])) (drop (i + 2) old))
                 ∙ ap (λ (z : List ℕ). z ++ drop (i + 2) old) (sym (bytes-append (p .written) (leg-of r ∷ [])));
           }
+
+  -- the place of the next leg, by how many are written
+  pub writing-next : (w v : Walker) (k : ℕ) (old new : List ℕ) → Writing m t o w v (2 * k + 2) old new → Writing m t o w v (2 * (k + 1)) old new
+  writing-next w v k old new = let e : 2 * k + 2 ≡ 2 * (k + 1) = omega arith in subst (λ (i : ℕ). Writing m t o w v i old new) e
 
   -- at the goal all legs are written
   pub writing-end : (w v : Walker) (i : ℕ) (old new : List ℕ) → Writing m t o w v i old new → 8 ≤ v .next → Written m t o w old new

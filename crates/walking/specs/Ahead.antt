@@ -30,6 +30,12 @@ pub record Counted (m : Map) (table : List ℕ) (o : Order) (w : Walker) (r : Wa
 abbrev pub Room : (m : Map) (table : List ℕ) (o : Order) (w : Walker) → List ℕ → Type 0
 Room m table o w old = (ls : List Leg) (total : Length) → Ahead m table o w ls total → 2 * length ls ≤ length old
 
+-- how many legs a buffer of so many bytes is to be tested for: if it has room for these, then for the legs ahead; if not, these are all of them
+pub record Wanted (m : Map) (table : List ℕ) (o : Order) (w : Walker) (bytes k : ℕ) : Type 0 where
+  pub enough : 2 * k ≤ bytes → (ls : List Leg) (total : Length) → Ahead m table o w ls total → 2 * length ls ≤ bytes
+  pub exact : bytes < 2 * k → (ls : List Leg) (total : Length) → Ahead m table o w ls total → k ≡ length ls
+  pub small : k < 4294967296
+
 -- the legs ahead written from the front
 abbrev pub Written : (m : Map) (table : List ℕ) (o : Order) (w : Walker) → (old new : List ℕ) → Type 0
 Written m table o w old new = (ls : List Leg) (total : Length) → Ahead m table o w ls total → new ≡ bytes ls ++ drop (2 * length ls) old

@@ -1,15 +1,16 @@
 // Reading a route from a table that keeps its promise: the first route and its legs.
 ghost use mathlib.Core.Path.{_≡_};
-ghost use Prim.Native.Nat.{_+_, _*_, _<_, _≤_};
-ghost use lib.ListN.{length, set};
+ghost use mathlib.Core.Logic.{_≢_};
+ghost use Prim.Native.Nat.{_+_, _*_, _/_, _%_, _<_, _≤_};
+ghost use lib.ListN.{getD, length, set};
 ghost use Rattle.floor.specs.Floor.{mapOf};
 ghost use Rattle.floor.specs.Inner.{Sound};
 ghost use Rattle.steps.specs.Step.{stepsOf};
 ghost use Rattle.steps.specs.Way.{Only};
 ghost use Rattle.entries.specs.Filled.{Filled};
-ghost use Rattle.walker.specs.Reading.{numbered, Stands};
+ghost use Rattle.walker.specs.Reading.{numbered, Readable, Stands, Starts};
 ghost use Rattle.walking.specs.Read.{Reads};
-ghost use Rattle.walking.specs.Ahead.{Counted, Room, Written};
+ghost use Rattle.walking.specs.Ahead.{Counted, Room, Wanted, Written};
 use lengths::Length;
 use walker::Walker;
 
@@ -32,7 +33,7 @@ pub enum Reading {
 // The way ahead of a walker: its length from the start of the walk, and how many legs it has.
 fn count_legs(start: Walker, width: usize, height: usize, map: &[u8], table: &[u32]) -> Way
     requires { ⌜ Sound (mapOf width height (now map)) ⌝ }
-    requires { ⌜ length (now table) ≡ height * width ⌝ }
+    requires { ⌜ Readable (mapOf width height (now map)) (now table) ⌝ }
     requires { ⌜ Stands (mapOf width height (now map)) (now table) numbered start ⌝ }
     ensures { λ r. ⌜ Counted (mapOf width height (now (map .entry))) (now (table .entry)) numbered start r ⌝ }
 {
@@ -56,7 +57,7 @@ fn put_leg(legs: &mut [u8], at: usize, heading: usize, count: usize)
     legs[at + 1] = count as u8;
 }
 
-// The legs ahead, written from the front; bytes after the last leg keep their values.
+// The legs ahead, written from the front; bytes after the last leg keep their values. They are counted, and their length is summed, as in `count_legs`.
 fn write_legs(
     start: Walker,
     width: usize,
@@ -64,21 +65,59 @@ fn write_legs(
     map: &[u8],
     table: &[u32],
     legs: &mut [u8],
-)
+) -> Way
     requires { ⌜ Sound (mapOf width height (now map)) ⌝ }
-    requires { ⌜ length (now table) ≡ height * width ⌝ }
+    requires { ⌜ Readable (mapOf width height (now map)) (now table) ⌝ }
     requires { ⌜ Stands (mapOf width height (now map)) (now table) numbered start ⌝ }
     requires { ⌜ Room (mapOf width height (now map)) (now table) numbered start (now legs) ⌝ }
+    ensures { λ r. ⌜ Counted (mapOf width height (now (map .entry))) (now (table .entry)) numbered start r ⌝ }
     ensures { λ _. ⌜ Written (mapOf width height (now (map .entry))) (now (table .entry)) numbered start (now (legs .entry)) (now (legs .exit)) ⌝ }
 {
     let mut walker = start;
-    let mut at: usize = 0;
+    let mut count: usize = 0;
     while walker.next < 8 {
         let leg = walker.leg(width, height, map, table);
-        put_leg(&mut *legs, at, leg.heading, leg.count);
+        put_leg(&mut *legs, 2 * count, leg.heading, leg.count);
         walker = leg.after;
-        at += 2;
+        count += 1;
     }
+    let length = walker.length;
+    Way {
+        length,
+        legs: count,
+    }
+}
+
+// The steps of a way, by the table's number: straight and diagonal ones.
+fn steps_of(entry: u32) -> usize
+    ensures { λ r. ⌜ (r ≡ entry / 65536 + entry % 65536) × (r < 131072) ⌝ }
+{
+    (entry / 65536 + entry % 65536) as usize
+}
+
+// How many legs a buffer of so many bytes is to be tested for: none if it has two bytes for each step, which is enough; else those ahead, which are counted.
+fn legs_wanted(
+    walker: Walker,
+    width: usize,
+    height: usize,
+    map: &[u8],
+    table: &[u32],
+    start: usize,
+    goal: usize,
+    bytes: usize,
+) -> usize
+    requires { ⌜ Sound (mapOf width height (now map)) ⌝ }
+    requires { ⌜ (start < height * width) × (goal < height * width) ⌝ }
+    requires { ⌜ Filled (stepsOf (mapOf width height (now map))) (Only goal) (height * width) (now table) ⌝ }
+    requires { ⌜ getD (now table) start 0 ≢ 4294967295 ⌝ }
+    requires { ⌜ Starts (mapOf width height (now map)) (now table) numbered start walker ⌝ }
+    ensures { λ r. ⌜ Wanted (mapOf width height (now (map .entry))) (now (table .entry)) numbered walker bytes r ⌝ }
+{
+    if 2 * steps_of(table[start]) <= bytes {
+        return 0;
+    }
+    let way = count_legs(walker, width, height, map, table);
+    way.legs
 }
 
 // The first route from start to the goal, read from a table that keeps its promise. The goal is the table's: only the promise names it.
@@ -100,10 +139,10 @@ pub fn read_route(
         return Reading::NoWay;
     }
     let walker = walker::stand(width, height, map, table, start);
-    let way = count_legs(walker, width, height, map, table);
-    if legs.len() < 2 * way.legs {
-        return Reading::NoRoom(way.legs);
+    let wanted = legs_wanted(walker, width, height, map, table, start, goal, legs.len());
+    if legs.len() < 2 * wanted {
+        return Reading::NoRoom(wanted);
     }
-    write_legs(walker, width, height, map, table, &mut *legs);
+    let way = write_legs(walker, width, height, map, table, &mut *legs);
     Reading::Way(way)
 }

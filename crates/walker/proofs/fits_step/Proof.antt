@@ -1,77 +1,65 @@
--- `walker::fits_step` meets its contract: a permitted step ends on the floor, so its end has an entry, and the test is the definition's.
+-- `walker::fits_step` meets its contract: numbers that do not differ by the step decide; a straight step is then permitted unless it leaves the row, and a diagonal one is asked for.
 -- Assumes nothing.
 use mathlib.Core.Path.{sym, _∙_}
-use borrow.Author.Needs.{needs}
 use native.Mathlib.Omega.{arith}
+use borrow.Author.Tests.{not-true, not-false}
 use Rattle.floor.specs.Floor.{mapOf}
-use Rattle.walker.proofs.OnFloor.{lands}
-use Rattle.walker.proofs.Searching.{fits-nowhere, fits-to}
+use Rattle.steps.proofs.OnMap.{few-cells}
+use Rattle.walker.proofs.Past.{fits-led, fits-off, fits-straight}
+use Rattle.walker.proofs.Searching.{fits-nowhere}
+use borrow.Author.Needs.{needs}
 use Rattle.walker.proofs.fits_step.Statement.{statement}
 use Rattle.walker.proofs.fits_step.Tie as tie
+
+fits-numbers-requires : tie.Need-fits-numbers-requires
+fits-numbers-requires c κs =
+    let p = c .before .before .pre in
+    let a = c .before .before .args in
+    let few = few-cells (mapOf (a .width) (a .height) (a .map .now)) (p .0) in
+    ((p .0 .wide, omega (arith, few, p .1 .0 .size)), (omega (arith, p .1 .1 .0, p .1 .0 .size), p .1 .1 .1))
+
+returns : tie.Need-returns
+returns c =
+    let p = c .before .before .before .before .pre in
+    fits-off _ _ _ (p .1 .1 .1) (p .0) _ (p .1 .0) (p .1 .1 .0) _ (c .before .fits-numbers .ensures) (not-true _ (c .if1 .taken))
+
+in-width-requires : tie.Need-in-width-requires
+in-width-requires c κs = search needs
+
+returns-2 : tie.Need-returns-2
+returns-2 c =
+    let p = c .before .before .before .before .before .before .pre in
+    fits-straight _ _ _ (p .1 .1 .1) (p .0) _ (p .1 .0) (p .1 .1 .0) _ (c .before .before .before .fits-numbers .ensures) (not-false _ (c .before .before .if1 .left))
+    (c .before .if2 .taken) _ (c .in-width .ensures)
 
 lead-of-requires : tie.Need-lead-of-requires
 lead-of-requires c κs = search needs
 
-enum-known-to : tie.Need-enum-known-to
-enum-known-to c = search needs
-
 enum-told : tie.Need-enum-told
 enum-told c = search needs
 
-returns : tie.Need-returns
-returns c = fits-nowhere _ _ _ _ (sym (c .before .before .lead-of .ensures) ∙ c .enum-told .given .1)
+enum-told-2 : tie.Need-enum-told-2
+enum-told-2 c = search needs
 
-mul-wide : tie.Need-mul-wide
-mul-wide c = search needs
+returns-3 : tie.Need-returns-3
+returns-3 c = fits-nowhere _ _ _ _ (sym (c .before .before .lead-of .ensures) ∙ c .enum-told2 .given .1)
 
-shared-slice-read-wide : tie.Need-shared-slice-read-wide
-shared-slice-read-wide c = search needs
-
-wide-requires : tie.Need-wide-requires
-wide-requires c κs = search needs
-
-mul-wide-2 : tie.Need-mul-wide-2
-mul-wide-2 c =
-    let start = c .before .before .before .before .before .before .before .before in
-    let a = start .args in
-    let led = sym (c .before .before .before .before .before .lead-of .ensures) ∙ c .before .before .before .to .given .1 in
-    omega (arith, lands (mapOf (a .width) (a .height) (a .map .now)) (a .heading) (a .cell) _ (start .pre .1 .1 .1) led, start .pre)
-
-shared-slice-read-wide-2 : tie.Need-shared-slice-read-wide-2
-shared-slice-read-wide-2 c =
-    let start = c .before .before .before .before .before .before .before .before .before in
-    let a = start .args in
-    let led = sym (c .before .before .before .before .before .before .lead-of .ensures) ∙ c .before .before .before .before .to .given .1 in
-    omega (arith, lands (mapOf (a .width) (a .height) (a .map .now)) (a .heading) (a .cell) _ (start .pre .1 .1 .1) led, start .pre)
-
-wide-requires-2 : tie.Need-wide-requires-2
-wide-requires-2 c κs = search needs
-
-cost-of-requires : tie.Need-cost-of-requires
-cost-of-requires c κs = search needs
-
-add-result : tie.Need-add-result
-add-result c = search needs
-
-returns-2 : tie.Need-returns-2
-returns-2 c =
-    let led = sym (c .before .before .before .before .before .before .before .before .lead-of .ensures) ∙ c .before .before .before .before .before .before .to .given .1 in
-    rw (c .before .before .before .wide .ensures .0, c .before .wide2 .ensures .0, c .cost-of .ensures .0) (fits-to _ _ _ _ _ led)
+returns-4 : tie.Need-returns-4
+returns-4 c =
+    let p = c .before .before .before .before .before .before .before .before .pre in
+    fits-led _ _ _ (p .1 .1 .1) (p .0) _ (p .1 .0) (p .1 .1 .0) _ (c .before .before .before .before .before .fits-numbers .ensures) (not-false _ (c .before .before .before .before .if1 .left))
+    _ (sym (c .before .before .lead-of .ensures) ∙ c .enum-told .given .1)
 
 pub fits-step-spec : {M : Type 1} → statement M
 fits-step-spec =
     tie.close
     (tie.spec
-    lead-of-requires
-    enum-known-to
-    enum-told
+    fits-numbers-requires
     returns
-    mul-wide
-    shared-slice-read-wide
-    wide-requires
-    mul-wide-2
-    shared-slice-read-wide-2
-    wide-requires-2
-    cost-of-requires
-    add-result
-    returns-2)
+    in-width-requires
+    returns-2
+    lead-of-requires
+    enum-told
+    enum-told-2
+    returns-3
+    returns-4)

@@ -1,47 +1,70 @@
--- `walker::next_heading` meets its contract: the search from the heading on finds what the whole search finds.
+-- `walker::next_heading` meets its contract: the search from the heading on finds what the whole search finds. The heading of a turn is even, so the next one is one of the eight.
 -- Assumes nothing.
 use mathlib.Core.Path.{_≡_, refl}
-use Prim.Native.Nat.{_-_}
-use borrow.Author.Needs.{needs}
+use Prim.Native.Nat.{_-_, _%_}
 use native.Mathlib.Omega.{arith}
 use Rattle.floor.specs.Floor.{mapOf}
 use Rattle.steps.specs.Leading.{leadOf}
 use Rattle.walker.specs.Reading.{numbered, fits, next, seek}
-use Rattle.walker.proofs.Searching.{seek-found, seek-goes, seek-none}
+use Rattle.walker.proofs.Searching.{pair-found, pair-goes, seek-found, seek-none}
 use Rattle.walker.proofs.next_heading.Statement.{statement}
 use Rattle.walker.proofs.next_heading.Tie as tie
 
 abbrev Inv-loop : tie.InvT-loop
 Inv-loop width height map table cell heading₀ heading =
-    seek (fits (leadOf (mapOf width height map)) table cell) (numbered .at) (8 - heading) heading
-    ≡ next (leadOf (mapOf width height map)) table (numbered .at) cell
+    (heading % 2 ≡ 0)
+    × (seek (fits (leadOf (mapOf width height map)) table cell) (numbered .at) (8 - heading) heading
+    ≡ next (leadOf (mapOf width height map)) table (numbered .at) cell)
 
 abbrev μ-loop : tie.MeasureT-loop
 μ-loop width height map table cell heading₀ heading = 8 - heading
 
 loop-holds : tie.Need-loop-holds Inv-loop μ-loop
 unfolding next
-loop-holds c = refl
+loop-holds c = (refl, refl)
 
 fits-step-requires : tie.Need-fits-step-requires Inv-loop μ-loop
-fits-step-requires c κs = search needs
+fits-step-requires c κs = let p = c .before .before .before .before .pre in (p .0, (p .1 .0, (p .1 .1, c .loop-test .taken)))
 
 returns : tie.Need-returns Inv-loop μ-loop
 returns c =
-    seek-found _ (numbered .at) _ _ (c .before .before .before .loop .inv) (c .before .before .loop-test .taken) _ (c .before .fits-step .ensures) (c .if1 .taken)
+    seek-found _ (numbered .at) _ _ (c .before .before .before .loop .inv .1) (c .before .before .loop-test .taken) _ (c .before .fits-step .ensures) (c .if1 .taken)
+
+add-fits-step : tie.Need-add-fits-step Inv-loop μ-loop
+add-fits-step c = omega (arith, c .before .before .loop-test .taken)
+
+second-requires : tie.Need-fits-step-requires-2 Inv-loop μ-loop
+second-requires c κs =
+    let p = c .before .before .before .before .before .before .pre in
+    (p .0, (p .1 .0, (p .1 .1, omega (arith, c .before .before .before .loop .inv .0, c .before .before .loop-test .taken))))
+
+add-result : tie.Need-add-result Inv-loop μ-loop
+add-result c = omega (arith, c .before .before .before .before .loop-test .taken)
+
+returns-2 : tie.Need-returns-2 Inv-loop μ-loop
+returns-2 c =
+    let turn = c .before .before .before .before in
+    let inv = turn .before .loop .inv in
+    pair-found _ (numbered .at) _ _ (inv .1) (inv .0) (turn .loop-test .taken) _ (c .before .before .before .fits-step .ensures) (c .before .before .if1 .left)
+    _ (c .before .fits-step2 .ensures) (c .if2 .taken)
 
 add-heading : tie.Need-add-heading Inv-loop μ-loop
-add-heading c = omega arith
+add-heading c = omega (arith, c .before .before .before .before .loop-test .taken)
 
 loop-less : tie.Need-loop-less Inv-loop μ-loop
-loop-less c = omega arith
+loop-less c = omega (arith, c .before .before .before .before .loop-test .taken)
 
 loop-again : tie.Need-loop-again Inv-loop μ-loop
 loop-again c =
-    seek-goes _ (numbered .at) _ _ (c .before .before .before .loop .inv) (c .before .before .loop-test .taken) _ (c .before .fits-step .ensures) (c .if1 .left)
+    let turn = c .before .before .before .before in
+    let inv = turn .before .loop .inv in
+    let on =
+    pair-goes _ (numbered .at) _ _ (inv .1) (inv .0) (turn .loop-test .taken) _ (c .before .before .before .fits-step .ensures) (c .before .before .if1 .left)
+    _ (c .before .fits-step2 .ensures) (c .if2 .left) in
+    (omega (arith, inv .0), on)
 
-returns-2 : tie.Need-returns-2 Inv-loop μ-loop
-returns-2 c = seek-none _ (numbered .at) _ _ (c .before .loop .inv) (c .loop-test .left)
+returns-3 : tie.Need-returns-3 Inv-loop μ-loop
+returns-3 c = seek-none _ (numbered .at) _ _ (c .before .loop .inv .1) (c .loop-test .left)
 
 pub next-heading-spec : {M : Type 1} → statement M
 next-heading-spec =
@@ -52,7 +75,11 @@ next-heading-spec =
     loop-holds
     fits-step-requires
     returns
+    add-fits-step
+    second-requires
+    add-result
+    returns-2
     add-heading
     loop-less
     loop-again
-    returns-2)
+    returns-3)

@@ -1,11 +1,11 @@
 -- `walking::read_route` meets its contract: the mark says that there is no way; else what lies ahead of a walker at the start is the first route,
--- its legs are counted before the first byte is written, and each way out is a law of proofs/Answering.
+-- there is room for its legs before the first byte is written, and each way out is a law of proofs/Answering.
 -- Assumes nothing.
 use borrow.Author.Needs.{needs}
 use native.Mathlib.Omega.{arith}
 use Rattle.walker.specs.Reading.{numbered}
+use Rattle.walker.proofs.OnFloor.{filled-readable}
 use Rattle.walking.proofs.Answering.{reads-no-room, reads-no-way, reads-way}
-use Rattle.walking.proofs.Counting.{room-enough}
 use Rattle.walking.proofs.read_route.Statement.{statement}
 use Rattle.walking.proofs.read_route.Tie as tie
 
@@ -21,28 +21,32 @@ returns c =
     reads-no-way _ (p .0) _ (p .1 .0 .1) _ (p .1 .1) numbered _ (p .1 .0 .0) _ (omega arith)
 
 stand-requires : tie.Need-stand-requires
-stand-requires c κs = search needs
+stand-requires c κs =
+    let p = c .before .before .before .before .before .pre in
+    (p .0, (filled-readable _ (p .0) _ (p .1 .0 .1) _ (p .1 .1), p .1 .0 .0))
 
-count-legs-requires : tie.Need-count-legs-requires
-count-legs-requires c κs = search needs
+legs-wanted-requires : tie.Need-legs-wanted-requires
+legs-wanted-requires c κs =
+    let p = c .before .before .before .before .before .before .pre in
+    (p .0, (p .1 .0, (p .1 .1, ((λ e. omega (arith, c .before .if1 .left)), c .stand .ensures))))
 
 mul-if2 : tie.Need-mul-if2
-mul-if2 c = search needs
+mul-if2 c = omega (arith, c .legs-wanted .ensures .small)
 
 returns-2 : tie.Need-returns-2
 returns-2 c =
-    let counted = c .before .before in
-    let start = counted .before .before .before .before .before .before .before in
+    let wanted = c .before in
+    let start = wanted .before .before .before .before .before .before .before in
     let p = start .pre in
-    reads-no-room _ (p .0) _ (p .1 .0 .1) _ (p .1 .1) numbered _ (p .1 .0 .0) _ (counted .before .stand .ensures) (λ e. omega (arith, counted .before .before .if1 .left))
-    _ (counted .count-legs .ensures) (start .args .legs .now) (omega arith)
+    reads-no-room _ (p .0) _ (p .1 .0 .1) _ (p .1 .1) numbered _ (p .1 .0 .0) _ (wanted .before .stand .ensures) (λ e. omega (arith, wanted .before .before .if1 .left))
+    _ (start .args .legs .now) (wanted .legs-wanted .ensures) (omega (arith, c .if2 .taken))
 
 write-legs-requires : tie.Need-write-legs-requires
 write-legs-requires c κs =
-    let counted = c .before .before .before in
-    let start = counted .before .before .before .before .before .before .before in
-    let room = room-enough _ _ _ _ _ (start .args .legs .now) (counted .count-legs .ensures) (omega arith) in
-    (start .pre .0, (start .pre .1 .1 .size, (counted .before .stand .ensures .stands, room)))
+    let wanted = c .before .before in
+    let p = wanted .before .before .before .before .before .before .before .pre in
+    let readable = filled-readable _ (p .0) _ (p .1 .0 .1) _ (p .1 .1) in
+    (p .0, (readable, (wanted .before .stand .ensures .stands, wanted .legs-wanted .ensures .enough (omega (arith, c .before .if2 .left)))))
 
 same-length : tie.Need-same-length
 same-length c = search needs
@@ -50,11 +54,12 @@ same-length c = search needs
 returns-3 : tie.Need-returns-3
 returns-3 c =
     let wrote = c .before .before in
-    let counted = wrote .before .before .before .before in
-    let start = counted .before .before .before .before .before .before .before in
+    let wanted = wrote .before .before .before in
+    let start = wanted .before .before .before .before .before .before .before in
     let p = start .pre in
-    reads-way _ (p .0) _ (p .1 .0 .1) _ (p .1 .1) numbered _ (p .1 .0 .0) _ (counted .before .stand .ensures) (λ e. omega (arith, counted .before .before .if1 .left))
-    _ (counted .count-legs .ensures) (start .args .legs .now) _ (omega arith) (wrote .write-legs .ensures)
+    let room = wanted .legs-wanted .ensures .enough (omega (arith, wrote .before .before .if2 .left)) in
+    reads-way _ (p .0) _ (p .1 .0 .1) _ (p .1 .1) numbered _ (p .1 .0 .0) _ (wanted .before .stand .ensures) (λ e. omega (arith, wanted .before .before .if1 .left))
+    _ (start .args .legs .now) _ room (wrote .write-legs .ensures .0) (wrote .write-legs .ensures .1)
 
 pub read-route-spec : {M : Type 1} → statement M
 read-route-spec =
@@ -64,7 +69,7 @@ read-route-spec =
     shared-slice-read-if1
     returns
     stand-requires
-    count-legs-requires
+    legs-wanted-requires
     mul-if2
     returns-2
     write-legs-requires

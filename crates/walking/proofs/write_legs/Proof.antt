@@ -1,41 +1,50 @@
--- `walking::write_legs` meets its contract: each turn puts the first leg ahead behind the legs passed; there is room for all of them.
+-- `walking::write_legs` meets its contract: each turn puts the first leg ahead behind the legs passed; there is room for all of them. They are counted on the way.
 -- Assumes nothing.
+use Prim.Native.Nat.{_*_}
 use native.Mathlib.Omega.{arith}
 use lib.ListN.{getD}
 use Rattle.floor.specs.Floor.{mapOf}
 use Rattle.walker.specs.Reading.{numbered}
-use Rattle.walking.proofs.Writing.{Writing, writing-end, writing-more, writing-room, writing-start}
+use Rattle.walking.proofs.Counting.{Counting, counting-end, counting-more, counting-start}
+use Rattle.walking.proofs.Writing.{Writing, writing-end, writing-more, writing-next, writing-room, writing-start}
 use Rattle.walking.proofs.write_legs.Statement.{statement}
 use Rattle.walking.proofs.write_legs.Tie as tie
 
 abbrev Inv-loop : tie.InvT-loop
-Inv-loop width height map table legs₀ walker₀ at₀ legs walker at = Writing (mapOf width height map) table numbered walker₀ walker at legs₀ legs
+Inv-loop width height map table legs₀ walker₀ count₀ legs walker count =
+    Writing (mapOf width height map) table numbered walker₀ walker (2 * count) legs₀ legs
+    × Counting (mapOf width height map) table numbered walker₀ walker count
 
 abbrev μ-loop : tie.MeasureT-loop
-μ-loop width height map table legs₀ walker₀ at₀ legs walker at = getD table (walker .cell) 0
+μ-loop width height map table legs₀ walker₀ count₀ legs walker count = getD table (walker .cell) 0
 
 loop-holds : tie.Need-loop-holds Inv-loop μ-loop
-loop-holds c = writing-start _ _ _ _ _ (c .before .before .before .pre .1 .1 .0)
+loop-holds c =
+    let stands = c .before .before .before .pre .1 .1 .0 in
+    (writing-start _ _ _ _ _ stands, counting-start _ _ _ _ stands)
 
 leg-requires : tie.Need-leg-requires Inv-loop μ-loop
 leg-requires c κs =
     let p = c .before .before .before .before .before .before .pre in
-    (p .0, (p .1 .0, (c .before .before .loop .inv .stands, c .if1 .taken)))
+    (p .0, (p .1 .0, (c .before .before .loop .inv .1 .stands, c .if1 .taken)))
+
+mul-put-leg : tie.Need-mul-put-leg Inv-loop μ-loop
+mul-put-leg c =
+    let p = c .before .before .before .before .before .before .before .before .pre in
+    omega (arith, c .before .before .before .before .loop .inv .1 .falls, p .1 .1 .0 .few)
 
 put-leg-requires : tie.Need-put-leg-requires Inv-loop μ-loop
 put-leg-requires c κs =
     let room = c .before .before .before .before .before .before .before .before .pre .1 .1 .1 in
     let leads = c .before .leg .ensures in (
-      writing-room _ _ _ _ _ _ _ _ _ room (c .before .before .before .before .loop .inv) leads,
+      writing-room _ _ _ _ _ _ _ _ _ room (c .before .before .before .before .loop .inv .0) leads,
       (omega (arith, leads .heading, c .before .before .if1 .taken), leads .short),
     )
 
-add-at : tie.Need-add-at Inv-loop μ-loop
-add-at c =
-    let start = c .before .before .before .before .before .before .before .before .before .before .before .before in
-    let inv = c .before .before .before .before .before .before .before .before .loop .inv in
-    let fits = writing-room _ _ _ _ _ _ _ _ _ (start .pre .1 .1 .1) inv (c .before .before .before .before .before .leg .ensures) in
-    omega (arith, inv .size, start .good .1 .1 .1 .1 .1 .0 .0)
+add-count : tie.Need-add-count Inv-loop μ-loop
+add-count c =
+    let p = c .before .before .before .before .before .before .before .before .before .before .before .before .pre in
+    omega (arith, c .before .before .before .before .before .before .before .before .loop .inv .1 .falls, p .1 .1 .0 .few)
 
 loop-less : tie.Need-loop-less Inv-loop μ-loop
 loop-less c = let leads = c .before .before .before .before .before .leg .ensures in omega (arith, leads .going .falls, leads .some)
@@ -43,14 +52,20 @@ loop-less c = let leads = c .before .before .before .before .before .leg .ensure
 loop-again : tie.Need-loop-again Inv-loop μ-loop
 loop-again c =
     let room = c .before .before .before .before .before .before .before .before .before .before .before .before .pre .1 .1 .1 in
-    let inv = c .before .before .before .before .before .before .before .before .loop .inv in
-    writing-more _ _ _ _ _ _ _ _ _ _ room inv (c .before .before .before .before .before .leg .ensures) (c .before .before .before .put-leg .ensures)
+    let turn = c .before .before .before .before .before .before .before .before .loop in
+    let leads = c .before .before .before .before .before .leg .ensures in (
+      writing-next _ _ _ _ _ (turn .count) _ _ (writing-more _ _ _ _ _ _ _ _ _ _ room (turn .inv .0) leads (c .before .before .before .put-leg .ensures)),
+      counting-more _ _ _ _ _ _ _ (turn .inv .1) leads,
+    )
 
 same-length : tie.Need-same-length Inv-loop μ-loop
-same-length c = c .before .before .loop .inv .size
+same-length c = c .before .before .before .loop .inv .0 .size
 
 returns : tie.Need-returns Inv-loop μ-loop
-returns c = writing-end _ _ _ _ _ _ _ _ (c .before .before .loop .inv) (c .if1 .left)
+returns c =
+    let stands = c .before .before .before .before .before .before .before .pre .1 .1 .0 in
+    let inv = c .before .before .before .loop .inv in
+    (counting-end _ _ _ _ _ _ stands (inv .1) (c .before .if1 .left), writing-end _ _ _ _ _ _ _ _ (inv .0) (c .before .if1 .left))
 
 pub write-legs-spec : {M : Type 1} → statement M
 write-legs-spec =
@@ -60,8 +75,9 @@ write-legs-spec =
     μ-loop
     loop-holds
     leg-requires
+    mul-put-leg
     put-leg-requires
-    add-at
+    add-count
     loop-less
     loop-again
     same-length

@@ -1,0 +1,72 @@
+-- `walker::fits_numbers` meets its contract: a place off the table to the north wraps to a number that is past its end.
+-- Assumes nothing.
+use native.Mathlib.Omega.{arith}
+use borrow.Author.Needs.{needs}
+use Rattle.walker.proofs.Past.{differ-off, differ-on}
+use Rattle.walker.proofs.fits_numbers.Statement.{statement}
+use Rattle.walker.proofs.fits_numbers.Tie as tie
+
+past-step-requires : tie.Need-past-step-requires
+past-step-requires c κs = search needs
+
+add-wrapping-sub-usize : tie.Need-add-wrapping-sub-usize
+add-wrapping-sub-usize c = search needs
+
+wrapping-sub-usize-requires : tie.Need-wrapping-sub-usize-requires
+wrapping-sub-usize-requires c κs = search needs
+
+returns : tie.Need-returns
+returns c =
+    let start = c .before .before .before .before in
+    let past = c .before .before .past-step .ensures in
+    differ-off _ _ _ _ _ _ (past .0) (past .1) (start .pre .0 .0) (start .pre .0 .1) (omega (arith, c .before .wrapping-sub-usize .ok)) (c .before .wrapping-sub-usize .ensures) (c .if1 .taken)
+
+mul-wide : tie.Need-mul-wide
+mul-wide c = search needs
+
+shared-slice-read-wide : tie.Need-shared-slice-read-wide
+shared-slice-read-wide c = search needs
+
+wide-requires : tie.Need-wide-requires
+wide-requires c κs = search needs
+
+mul-wide-2 : tie.Need-mul-wide-2
+mul-wide-2 c = search needs
+
+shared-slice-read-wide-2 : tie.Need-shared-slice-read-wide-2
+shared-slice-read-wide-2 c = search needs
+
+wide-requires-2 : tie.Need-wide-requires-2
+wide-requires-2 c κs = search needs
+
+cost-of-requires : tie.Need-cost-of-requires
+cost-of-requires c κs = search needs
+
+add-result : tie.Need-add-result
+add-result c = search needs
+
+returns-2 : tie.Need-returns-2
+returns-2 c =
+    let wrapped = c .before .before .before .before .before .before in
+    let start = wrapped .before .before .before in
+    let past = wrapped .before .past-step .ensures in
+    rw (c .before .before .before .wide .ensures .0, c .before .wide2 .ensures .0, c .cost-of .ensures .0)
+    (differ-on _ _ _ _ _ _ (past .0) (past .1) (start .pre .0 .0) (start .pre .0 .1) (omega (arith, wrapped .wrapping-sub-usize .ok)) (wrapped .wrapping-sub-usize .ensures) (c .before .before .before .before .before .if1 .left))
+
+pub fits-numbers-spec : {M : Type 1} → statement M
+fits-numbers-spec =
+    tie.close
+    (tie.spec
+    past-step-requires
+    add-wrapping-sub-usize
+    wrapping-sub-usize-requires
+    returns
+    mul-wide
+    shared-slice-read-wide
+    wide-requires
+    mul-wide-2
+    shared-slice-read-wide-2
+    wide-requires-2
+    cost-of-requires
+    add-result
+    returns-2)
