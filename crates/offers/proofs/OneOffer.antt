@@ -64,8 +64,8 @@ module _ (w : Wave) (x q : List ℕ) (t a : ℕ) (g : Going w x q t) where
     past-goal : atGoal < cand
     past-goal = by (g .support p (cell .free) (omega (arith, cell .near)))
       where
-        by : (p ≡ w .goal) ⊎ Support w x p (at x p) → atGoal < cand
-        by (inl e) = omega (arith, ap (at x) e, g .start, stretch h (at x p) .least)
+        by : (at (w .floor) p ≡ atGoal) ⊎ Support w x p (at x p) → atGoal < cand
+        by (inl e) = omega (arith, g .start p e, stretch h (at x p) .least)
         by (inr u) = omega (arith, u .sum, stretch (u .heading) (at x (u .cell)) .least, stretch h (at x p) .least)
 
     in-x : a < length x
@@ -95,9 +95,9 @@ module _ (w : Wave) (x q : List ℕ) (t a : ℕ) (g : Going w x q t) where
       queue = λ i b. front q t a i (omega (arith, g .order));
     }
 
-    supports : (z : ℕ) → 0 < at x′ z → at x′ z < unreached → (z ≡ w .goal) ⊎ Support w x′ z (at x′ z)
+    supports : (z : ℕ) → 0 < at x′ z → at x′ z < unreached → (at (w .floor) z ≡ atGoal) ⊎ Support w x′ z (at x′ z)
     supports =
-        new (λ i v. 0 < v → v < unreached → (i ≡ w .goal) ⊎ Support w x′ i v)
+        new (λ i v. 0 < v → v < unreached → (at (w .floor) i ≡ atGoal) ⊎ Support w x′ i v)
         (λ o f. inr (record {
           heading = h;
           cell = p;
@@ -107,7 +107,7 @@ module _ (w : Wave) (x q : List ℕ) (t a : ℕ) (g : Going w x q t) where
         }))
         (λ i e o f. again i (g .support i o f))
       where
-        again : (i : ℕ) → (i ≡ w .goal) ⊎ Support w x i (at x i) → (i ≡ w .goal) ⊎ Support w x′ i (at x i)
+        again : (i : ℕ) → (at (w .floor) i ≡ atGoal) ⊎ Support w x i (at x i) → (at (w .floor) i ≡ atGoal) ⊎ Support w x′ i (at x i)
         again i (inl e) = inl e
         again i (inr u) = inr (record {
           heading = u .heading;
@@ -135,8 +135,7 @@ module _ (w : Wave) (x q : List ℕ) (t a : ℕ) (g : Going w x q t) where
       free = new (λ i v. 0 < at (w .floor) i → 0 < v) (λ o. omega (arith, stretch h (at x p))) (λ i e. g .free i);
       shut = new (λ i v. at (w .floor) i ≡ 0 → v ≡ 0) (λ o. absurd (omega (arith, s .to))) (λ i e. g .shut i);
       start =
-          new (λ i v. i ≡ w .goal → v ≡ atGoal) (λ e. absurd (omega (arith, ap (at x) e, g .start, past-goal)))
-          (λ i e m. ap (at x) m ∙ g .start) (w .goal) refl;
+          new (λ i v. at (w .floor) i ≡ atGoal → v ≡ atGoal) (λ e. absurd (omega (arith, g .start a e, past-goal))) (λ i e. g .start i);
       below = new (λ i v. v < unreached → v < w .limit + 2 * span) (λ o. high) (λ i e. g .below i);
       support = supports;
       relaxed = relaxes;

@@ -1,6 +1,5 @@
 -- What the waves keep. A wave is one straight step wide: its cells are settled before its steps are taken, and what they reach lies in the
 -- next wave or in the one after that, whatever the order.
--- Assumes nothing.
 use mathlib.Core.Path.{_≡_}
 use mathlib.Core.Logic.{_⊎_}
 use mathlib.Core.List.{List}
@@ -8,11 +7,10 @@ use Prim.Native.Nat.{ℕ, _+_, _*_, _≤_, _<_}
 use lib.ListN.{getD, length}
 use Rattle.offers.specs.Work.{unreached, span, atGoal, stepped, at, Inside, WorkStep, Room}
 
--- a wave: the floor as it was loaded, and the goal's place; the work array and the end of the queue when the wave began; and the number at
--- which it ends
+-- a wave: the floor as it was loaded, in which the goal's cells have the goal's number; the work array and the end of the queue
+-- when the wave began; and the number at which it ends
 pub record Wave : Type 0 where
   pub floor : List ℕ
-  pub goal : ℕ
   pub before : List ℕ
   pub end : ℕ
   pub limit : ℕ
@@ -57,12 +55,12 @@ pub record Going (w : Wave) (x q : List ℕ) (t : ℕ) : Type 0 where
   -- blocked cells and no others are 0
   pub free : (z : ℕ) → 0 < at (w .floor) z → 0 < at x z
   pub shut : (z : ℕ) → at (w .floor) z ≡ 0 → at x z ≡ 0
-  -- the goal has length (0, 0)
-  pub start : at x (w .goal) ≡ atGoal
+  -- the goal's cells have length (0, 0)
+  pub start : (z : ℕ) → at (w .floor) z ≡ atGoal → at x z ≡ atGoal
   -- everything reached lies below the end of the wave after the next
   pub below : (z : ℕ) → at x z < unreached → at x z < w .limit + 2 * span
-  -- every reached cell but the goal has a settled neighbour whose number and the step make its own
-  pub support : (z : ℕ) → 0 < at x z → at x z < unreached → (z ≡ w .goal) ⊎ Support w x z (at x z)
+  -- every reached cell but the goal's has a settled neighbour whose number and the step make its own
+  pub support : (z : ℕ) → 0 < at x z → at x z < unreached → (at (w .floor) z ≡ atGoal) ⊎ Support w x z (at x z)
   -- no step out of a cell before this wave would lower a cell
   pub relaxed : (h a b : ℕ) → WorkStep (w .floor) h a b → at x a + span < w .limit → at x b ≤ stepped h (at x a)
   -- behind its end when the wave began, the queue has the cells that were reached since, and all cells there lie past the wave

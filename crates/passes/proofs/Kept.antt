@@ -15,18 +15,18 @@ pub wider : (q : List ℕ) (low high low′ high′ z : ℕ) → low′ ≤ low 
 wider q low high low′ high′ z m n l =
     record { index = l .index; here = l .here; after = omega (arith, l .after); before = omega (arith, l .before) }
 
--- a wave of this floor and goal that begins now
-abbrev pub the : List ℕ → ℕ → List ℕ → (end limit : ℕ) → Wave
-the floor goal x end limit = record { floor = floor; goal = goal; before = x; end = end; limit = limit }
+-- a wave of this floor that begins now
+abbrev pub the : List ℕ → List ℕ → (end limit : ℕ) → Wave
+the floor x end limit = record { floor = floor; before = x; end = end; limit = limit }
 
 -- between waves: the next one ends at limit
-pub record Between (floor : List ℕ) (goal mid fresh tail limit : ℕ) (x q : List ℕ) : Type 0 where
-  pub going : Going (the floor goal x tail limit) x q tail
+pub record Between (floor : List ℕ) (mid fresh tail limit : ℕ) (x q : List ℕ) : Type 0 where
+  pub going : Going (the floor x tail limit) x q tail
   pub order : (mid ≤ fresh) × (fresh ≤ tail)
   -- everything reached lies below the end of the wave after this one
   pub below : (z : ℕ) → at x z < unreached → at x z < limit + span
   -- every reached cell but the goal was reached by a step out of a cell before this wave
-  pub support : (z : ℕ) → Reached x z → (z ≡ goal) ⊎ Support (the floor goal x tail (limit - span)) x z (at x z)
+  pub support : (z : ℕ) → Reached x z → (at floor z ≡ atGoal) ⊎ Support (the floor x tail (limit - span)) x z (at x z)
   -- q[mid..tail] are the cells that have not taken their steps, and they alone
   pub due : (i : ℕ) → mid ≤ i → i < tail → Due x limit (getD q i 0)
   pub in-due : (z : ℕ) → Due x limit z → Listed q mid tail z

@@ -6,12 +6,12 @@ use mathlib.Core.List.{List}
 use Prim.Native.Nat.{ℕ, _+_, _≤_, _<_}
 use native.Mathlib.Omega.{arith}
 use native.Mathlib.Decide.{decLe, ℕ-discrete}
-use Rattle.offers.specs.Work.{unreached, span, highest, at}
+use Rattle.offers.specs.Work.{unreached, span, atGoal, highest, at}
 use Rattle.offers.specs.Wave.{Support}
 use Rattle.passes.specs.Solved.{Found, Solved}
 use Rattle.passes.proofs.Kept.{the, Between}
 
-module _ (floor : List ℕ) (goal mid fresh tail limit : ℕ) (x q : List ℕ) (g : Between floor goal mid fresh tail limit x q) (empty : tail ≤ mid) where
+module _ (floor : List ℕ) (mid fresh tail limit : ℕ) (x q : List ℕ) (g : Between floor mid fresh tail limit x q) (empty : tail ≤ mid) where
   -- all that was reached lies before the wave
   low : (z : ℕ) → 0 < at x z → at x z < unreached → at x z + span < limit
   low z o f = by (decLe limit (at x z + span))
@@ -25,7 +25,7 @@ module _ (floor : List ℕ) (goal mid fresh tail limit : ℕ) (x q : List ℕ) (
   fits : limit ≤ highest
   fits = omega (arith, g .count, g .going .room, g .order)
 
-  pub solved : Solved floor goal x
+  pub solved : Solved floor x
   solved = record {
     cells = g .going .cells;
     kinds = g .going .kinds;
@@ -41,6 +41,6 @@ module _ (floor : List ℕ) (goal mid fresh tail limit : ℕ) (x q : List ℕ) (
       by z f (yes e) = omega arith
       by z f (no e) = omega (arith, low z (omega arith) f, fits)
 
-      found : (z : ℕ) → (z ≡ goal) ⊎ Support (the floor goal x tail limit) x z (at x z) → (z ≡ goal) ⊎ Found floor x z (at x z)
+      found : (z : ℕ) → (at floor z ≡ atGoal) ⊎ Support (the floor x tail limit) x z (at x z) → (at floor z ≡ atGoal) ⊎ Found floor x z (at x z)
       found z (inl e) = inl e
       found z (inr u) = inr (record { heading = u .heading; cell = u .cell; step = u .step; found = omega (arith, u .near, fits); sum = u .sum })

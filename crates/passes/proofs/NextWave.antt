@@ -22,14 +22,14 @@ use Rattle.passes.proofs.Kept.{wider, the, Between}
 use Rattle.passes.proofs.Onward.{supported, next-due, onward}
 use Rattle.passes.proofs.SomeCell.{small, some-cell}
 
-module _ (floor : List ℕ) (goal mid fresh tail limit : ℕ) (x q : List ℕ) (g : Between floor goal mid fresh tail limit x q) (more : mid < tail) where
+module _ (floor : List ℕ) (mid fresh tail limit : ℕ) (x q : List ℕ) (g : Between floor mid fresh tail limit x q) (more : mid < tail) where
   abbrev w : Wave
-  w = the floor goal x tail limit
+  w = the floor x tail limit
 
-  pub pass-ready : PassReady (the floor goal x tail limit) x q mid fresh tail
+  pub pass-ready : PassReady (the floor x tail limit) x q mid fresh tail
   pass-ready = record {
     going = g .going;
-    small = small floor goal mid fresh tail limit x q g more;
+    small = small floor mid fresh tail limit x q g more;
     begins = refl;
     order = g .order;
     cells = g .due;
@@ -37,11 +37,11 @@ module _ (floor : List ℕ) (goal mid fresh tail limit : ℕ) (x q : List ℕ) (
   }
 
   module _ (x′ q′ : List ℕ) (top t : ℕ) (l : PassLeft mid fresh tail limit x q x′ q′ top t) where
-    d : PassDone (the floor goal x tail limit) mid top x q x′ q′ t
+    d : PassDone (the floor x tail limit) mid top x q x′ q′ t
     d = l .keeps w refl pass-ready
 
     pub grows : mid < top
-    grows = let c = some-cell floor goal mid fresh tail limit x q g more in d .fewer (c .index) (c .after) (c .before) (c .near)
+    grows = let c = some-cell floor mid fresh tail limit x q g more in d .fewer (c .index) (c .after) (c .before) (c .near)
 
     -- what is below the wave's end was so when the wave began
     was : (z : ℕ) → at x′ z < limit → at x z ≡ at x′ z
@@ -75,7 +75,7 @@ module _ (floor : List ℕ) (goal mid fresh tail limit : ℕ) (x q : List ℕ) (
     now-due i m n = by (decLe tail i)
       where
         by : Dec (tail ≤ i) → Due x′ (limit + span) (getD q′ i 0)
-        by (yes k) = next-due floor goal x tail limit x′ q′ t (d .going) _ (omega (arith, g .start)) (d .going .queued i k n)
+        by (yes k) = next-due floor x tail limit x′ q′ t (d .going) _ (omega (arith, g .start)) (d .going .queued i k n)
         by (no k) =
             let r = d .waits i m (omega arith) in
             let a = d .high (getD q′ i 0) (r .1) in
@@ -102,12 +102,12 @@ module _ (floor : List ℕ) (goal mid fresh tail limit : ℕ) (x q : List ℕ) (
     now-ready : (i : ℕ) → top ≤ i → i < tail → at x′ (getD q′ i 0) < limit + span
     now-ready i m n = let z = getD q′ i 0 in omega (arith, d .low z, g .below z (d .waits i m n .0 .found))
 
-    pub next : Between floor goal top tail t (limit + span) x′ q′
+    pub next : Between floor top tail t (limit + span) x′ q′
     next = record {
-      going = onward floor goal x tail limit x′ q′ t (d .going) now-relaxed;
+      going = onward floor x tail limit x′ q′ t (d .going) now-relaxed;
       order = (l .order, d .going .order);
       below = λ z f. omega (arith, d .going .below z f);
-      support = supported floor goal x tail limit x′ q′ t (d .going);
+      support = supported floor x tail limit x′ q′ t (d .going);
       due = now-due;
       in-due = now-listed;
       waited = now-ready;

@@ -5,28 +5,28 @@ use mathlib.Core.Logic.{_⊎_, inl, inr}
 use mathlib.Core.List.{List}
 use Prim.Native.Nat.{ℕ, _+_, _-_, _≤_, _<_}
 use native.Mathlib.Omega.{arith}
-use Rattle.offers.specs.Work.{span, stepped, at, WorkStep}
+use Rattle.offers.specs.Work.{span, atGoal, stepped, at, WorkStep}
 use Rattle.offers.specs.Wave.{Support, Reached, Next, Going}
 use Rattle.passes.specs.Pass.{Due}
 use Rattle.passes.proofs.Kept.{the}
 
-module _ (floor : List ℕ) (goal : ℕ) (x : List ℕ) (end limit : ℕ) (x′ q′ : List ℕ) (t : ℕ) (g : Going (the floor goal x end limit) x′ q′ t) where
+module _ (floor : List ℕ) (x : List ℕ) (end limit : ℕ) (x′ q′ : List ℕ) (t : ℕ) (g : Going (the floor x end limit) x′ q′ t) where
   -- what was reached by a step out of a settled cell was so, whatever the wave's end
-  again : (v z : ℕ) → limit ≤ v → Reached x′ z → (z ≡ goal) ⊎ Support (the floor goal x′ t v) x′ z (at x′ z)
+  again : (v z : ℕ) → limit ≤ v → Reached x′ z → (at floor z ≡ atGoal) ⊎ Support (the floor x′ t v) x′ z (at x′ z)
   again v z m r = by (g .support z (r .free) (r .found))
     where
-      by : (z ≡ goal) ⊎ Support (the floor goal x end limit) x′ z (at x′ z) → (z ≡ goal) ⊎ Support (the floor goal x′ t v) x′ z (at x′ z)
+      by : (at floor z ≡ atGoal) ⊎ Support (the floor x end limit) x′ z (at x′ z) → (at floor z ≡ atGoal) ⊎ Support (the floor x′ t v) x′ z (at x′ z)
       by (inl e) = inl e
       by (inr u) = inr (record { heading = u .heading; cell = u .cell; step = u .step; near = omega (arith, u .near); sum = u .sum })
 
-  pub supported : (z : ℕ) → Reached x′ z → (z ≡ goal) ⊎ Support (the floor goal x′ t (limit + span - span)) x′ z (at x′ z)
+  pub supported : (z : ℕ) → Reached x′ z → (at floor z ≡ atGoal) ⊎ Support (the floor x′ t (limit + span - span)) x′ z (at x′ z)
   supported z r = again (limit + span - span) z (omega arith) r
 
   -- what lies past the wave is due in the next one
-  pub next-due : (z : ℕ) → 0 < limit → Next (the floor goal x end limit) x′ z → Due x′ (limit + span) z
+  pub next-due : (z : ℕ) → 0 < limit → Next (the floor x end limit) x′ z → Due x′ (limit + span) z
   next-due z m r = record { reached = record { free = omega (arith, r .after); found = r .found }; after = omega (arith, r .after) }
 
-  pub onward : ((h a b : ℕ) → WorkStep floor h a b → at x′ a < limit → at x′ b ≤ stepped h (at x′ a)) → Going (the floor goal x′ t (limit + span)) x′ q′ t
+  pub onward : ((h a b : ℕ) → WorkStep floor h a b → at x′ a < limit → at x′ b ≤ stepped h (at x′ a)) → Going (the floor x′ t (limit + span)) x′ q′ t
   onward relaxed = record {
     border = g .border;
     cells = g .cells;

@@ -9,7 +9,7 @@ use Prim.Native.Nat.{ℕ, _+_, _-_, _%_, _≤_, _<_}
 use native.Mathlib.Omega.{arith}
 use native.Mathlib.Decide.{decLe}
 use lib.ListN.{getD}
-use Rattle.offers.specs.Work.{stride, span, highest, at, across, WorkStep}
+use Rattle.offers.specs.Work.{stride, span, atGoal, highest, at, across, WorkStep}
 use Rattle.offers.specs.Wave.{Support}
 use Rattle.offers.proofs.Numbers.{straight}
 use Rattle.offers.proofs.Turns.{also, Corner, Shape, level, upright, slanted, shape}
@@ -44,7 +44,7 @@ pub record Low (x q : List ℕ) (mid tail limit : ℕ) : Type 0 where
   pub before : index < tail
   pub near : at x (getD q index 0) < limit
 
-module _ (floor : List ℕ) (goal mid fresh tail limit : ℕ) (x q : List ℕ) (g : Between floor goal mid fresh tail limit x q) (more : mid < tail) where
+module _ (floor : List ℕ) (mid fresh tail limit : ℕ) (x q : List ℕ) (g : Between floor mid fresh tail limit x q) (more : mid < tail) where
   pub small : limit ≤ highest
   small = omega (arith, g .count, g .going .room)
 
@@ -55,7 +55,7 @@ module _ (floor : List ℕ) (goal mid fresh tail limit : ℕ) (x q : List ℕ) (
   abbrev z : ℕ
   z = getD q mid 0
 
-  module _ (far : limit ≤ at x z) (u : Support (the floor goal x tail (limit - span)) x z (at x z)) where
+  module _ (far : limit ≤ at x z) (u : Support (the floor x tail (limit - span)) x z (at x z)) where
     abbrev a : ℕ
     a = u .cell
 
@@ -91,8 +91,8 @@ module _ (floor : List ℕ) (goal mid fresh tail limit : ℕ) (x q : List ℕ) (
   pub some-cell : Low x q mid tail limit
   some-cell = by (decLe limit (at x z))
     where
-      past : limit ≤ at x z → (z ≡ goal) ⊎ Support (the floor goal x tail (limit - span)) x z (at x z) → Low x q mid tail limit
-      past far (inl e) = absurd (omega (arith, ap (at x) e, g .going .start, g .start))
+      past : limit ≤ at x z → (at floor z ≡ atGoal) ⊎ Support (the floor x tail (limit - span)) x z (at x z) → Low x q mid tail limit
+      past far (inl e) = absurd (omega (arith, g .going .start z e, g .start))
       past far (inr u) = by-step far u (shape (u .heading) (u .step .heading))
 
       by : Dec (limit ≤ at x z) → Low x q mid tail limit

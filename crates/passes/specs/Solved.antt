@@ -1,19 +1,18 @@
 -- The work array before the first wave and after the last one.
--- Assumes nothing.
 use mathlib.Core.Path.{_≡_}
 use mathlib.Core.Logic.{_⊎_}
 use mathlib.Core.List.{List}
-use Prim.Native.Nat.{ℕ, _≤_, _<_}
-use lib.ListN.{length}
-use Rattle.offers.specs.Work.{unreached, largest, atGoal, stepped, highest, at, Inside, WorkStep, waiting}
+use Prim.Native.Nat.{ℕ, _*_, _≤_, _<_}
+use lib.ListN.{getD, length}
+use Rattle.offers.specs.Work.{unreached, largest, span, atGoal, stepped, highest, at, Inside, WorkStep, waiting}
+use Rattle.offers.specs.Wave.{Wave, Listed, Going, Falls}
 
--- a floor in the work array, with nothing reached but the goal, and a queue that has room for all other cells, and a place more
-pub record Loaded (x q : List ℕ) (goal : ℕ) : Type 0 where
+-- a floor in the work array, with nothing reached but the goal's cells, and a queue that has room for all other cells, and a place more
+pub record Loaded (x q : List ℕ) : Type 0 where
   pub few : length x ≤ largest
   pub small : length q ≤ largest
   pub enough : waiting x < length q
-  pub start : at x goal ≡ atGoal
-  pub kinds : (z : ℕ) → (z ≡ goal) ⊎ ((at x z ≡ 0) ⊎ (at x z ≡ unreached))
+  pub kinds : (z : ℕ) → (at x z ≡ atGoal) ⊎ ((at x z ≡ 0) ⊎ (at x z ≡ unreached))
   pub border : (z : ℕ) → 0 < at x z → Inside x z
 
 -- z with the number v was reached by a step from another reached cell
@@ -24,13 +23,33 @@ pub record Found (floor x : List ℕ) (z v : ℕ) : Type 0 where
   pub found : at x cell < unreached
   pub sum : v ≡ stepped heading (at x cell)
 
--- after the last wave: every reached cell but the goal is a step from another, and no step would lower a cell
-pub record Solved (floor : List ℕ) (goal : ℕ) (x : List ℕ) : Type 0 where
+-- after the last wave: every reached cell but the goal's is a step from another, and no step would lower a cell
+pub record Solved (floor x : List ℕ) : Type 0 where
   pub cells : length x ≡ length floor
   pub kinds : (z : ℕ) → at x z ≤ unreached
   pub free : (z : ℕ) → 0 < at floor z → 0 < at x z
   pub shut : (z : ℕ) → at floor z ≡ 0 → at x z ≡ 0
-  pub start : at x goal ≡ atGoal
+  pub start : (z : ℕ) → at floor z ≡ atGoal → at x z ≡ atGoal
   pub below : (z : ℕ) → at x z < unreached → at x z < highest
-  pub support : (z : ℕ) → 0 < at x z → at x z < unreached → (z ≡ goal) ⊎ Found floor x z (at x z)
+  pub support : (z : ℕ) → 0 < at x z → at x z < unreached → (at floor z ≡ atGoal) ⊎ Found floor x z (at x z)
   pub relaxed : (h a b : ℕ) → WorkStep floor h a b → at x a < unreached → at x b ≤ stepped h (at x a)
+
+-- these are the goal's places, in any order: those that have the goal's number
+pub record Goals (x goals : List ℕ) : Type 0 where
+  pub few : length goals ≤ largest
+  pub are : (i : ℕ) → i < length goals → at x (getD goals i 0) ≡ atGoal
+  pub all : (z : ℕ) → at x z ≡ atGoal → Listed goals 0 (length goals) z
+
+-- the wave of the goal's places alone
+abbrev pub goalWave : List ℕ → Wave
+goalWave x = record { floor = x; before = x; end = 0; limit = 2 * span }
+
+-- the first n of the goal's places have taken their steps
+pub record GoalsDone (goals : List ℕ) (n : ℕ) (x q x′ q′ : List ℕ) (t : ℕ) : Type 0 where
+  pub going : Going (goalWave x) x′ q′ t
+  pub falls : Falls (goalWave x) x q x′ q′
+  pub done : (k h b : ℕ) → k < n → WorkStep x h (getD goals k 0) b → at x′ b ≤ stepped h atGoal
+
+-- all of them have
+abbrev pub AllGoalsDone : (goals x q x′ q′ : List ℕ) (t : ℕ) → Type 0
+AllGoalsDone goals = GoalsDone goals (length goals)

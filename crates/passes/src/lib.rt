@@ -1,9 +1,9 @@
 // Wave after wave, from the goal. A wave is one straight step wide: when it begins, all numbers below its end are settled. Its cells take all
 // their steps, in whatever order; what they reach lies in the next wave or, by a diagonal step, in the one after that.
-// The goal takes its steps first and is never queued, so that the queue has at most one cell fewer than the floor.
+// The goal's places take their steps first and are never queued, so that the queue has at most one cell fewer than the floor.
 ghost use Rattle.offers.specs.Work.{at};
 ghost use Rattle.passes.specs.Pass.{Below, Place, Places, Parted, StepsBegun, StepsLeft, PassBegun, PassLeft};
-ghost use Rattle.passes.specs.Solved.{Loaded, Solved};
+ghost use Rattle.passes.specs.Solved.{Loaded, Goals, AllGoalsDone, Solved};
 
 // The part of the queue that the next wave has before it.
 pub struct Part {
@@ -79,14 +79,31 @@ fn one_wave(
     }
 }
 
-// All waves from the goal's place: the goal's own steps, and then wave after wave of what they reach.
-pub fn all_waves(work: &mut [u32], queue: &mut [u32], goal: usize)
-    requires { ⌜ Loaded (now work) (now queue) goal ⌝ }
-    ensures { λ r. ⌜ Solved (now (work .entry)) goal (now (work .exit)) ⌝ }
+// The goal's places take their steps. Gives where the queue ends then.
+fn goal_steps(work: &mut [u32], queue: &mut [u32], goals: &[u32]) -> usize
+    requires { ⌜ Loaded (now work) (now queue) ⌝ }
+    requires { ⌜ Goals (now work) (now goals) ⌝ }
+    ensures { λ r. ⌜ AllGoalsDone (now (goals .entry)) (now (work .entry)) (now (queue .entry)) (now (work .exit)) (now (queue .exit)) r ⌝ }
+{
+    let mut end: usize = 0;
+    let mut i: usize = 0;
+    while i < goals.len() {
+        let from = goals[i] as usize;
+        end = offers::cell_steps(work, queue, end, from);
+        i += 1;
+    }
+    end
+}
+
+// All waves from the goal's places: their own steps, and then wave after wave of what they reach.
+pub fn all_waves(work: &mut [u32], queue: &mut [u32], goals: &[u32])
+    requires { ⌜ Loaded (now work) (now queue) ⌝ }
+    requires { ⌜ Goals (now work) (now goals) ⌝ }
+    ensures { λ r. ⌜ Solved (now (work .entry)) (now (work .exit)) ⌝ }
 {
     let mut mid: usize = 0;
     let mut fresh: usize = 0;
-    let mut tail = offers::cell_steps(work, queue, 0, goal);
+    let mut tail = goal_steps(work, queue, goals);
     let mut limit: u32 = 3 * offers::STRAIGHT;
     while mid < tail {
         let part = one_wave(work, queue, mid, fresh, tail, limit);

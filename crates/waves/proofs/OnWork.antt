@@ -1,9 +1,9 @@
 -- The floor in the work array: its cells stand apart, and its steps are the floor's.
--- Assumes nothing.
-use mathlib.Core.Path.{_≡_, sym, subst₂}
+use mathlib.Core.Path.{_≡_, ap₂, sym, subst₂, _∙_}
 use mathlib.Core.List.{List}
-use Prim.Native.Nat.{ℕ, _+_, _%_, _≤_, _<_}
+use Prim.Native.Nat.{ℕ, _+_, _*_, _/_, _%_, _≤_, _<_}
 use native.Mathlib.Omega.{arith}
+use native.Mathlib.Nat.{div-add-mod', mod-lt}
 use Rattle.steps.specs.Heading.{changeOf}
 use Rattle.steps.specs.Step.{Step}
 use Rattle.steps.proofs.Grid.{Floor}
@@ -25,6 +25,19 @@ spot-column c r c′ r′ a b e = omega arith
 
 pub spot-row : (c r c′ r′ : ℕ) → c < stride → c′ < stride → spot c r ≡ spot c′ r′ → r ≡ r′
 spot-row c r c′ r′ a b e = omega arith
+
+-- the place of a cell, and that no other cell has it
+abbrev pub placeOf : Floor → ℕ → ℕ
+placeOf f y = spot (y % f .width) (y / f .width)
+
+pub narrow : (f : Floor) → 0 < f .width → f .width ≤ 128 → (y : ℕ) → y % f .width < stride
+narrow f wide few y = omega (arith, mod-lt y wide)
+
+pub same-cell : (f : Floor) → 0 < f .width → f .width ≤ 128 → (y z : ℕ) → placeOf f y ≡ placeOf f z → y ≡ z
+same-cell f wide few y z e =
+    let a = spot-column (y % f .width) (y / f .width) (z % f .width) (z / f .width) (narrow f wide few y) (narrow f wide few z) e in
+    let b = spot-row (y % f .width) (y / f .width) (z % f .width) (z / f .width) (narrow f wide few y) (narrow f wide few z) e in
+    sym (div-add-mod' y (f .width)) ∙ ap₂ (λ (u v : ℕ). u * f .width + v) b a ∙ div-add-mod' z (f .width)
 
 -- a step can be walked back
 pub back : (floor : List ℕ) (h a b : ℕ) → stride + 1 ≤ a → stride + 1 ≤ b → WorkStep floor h a b → WorkStep floor ((h + 4) % 8) b a

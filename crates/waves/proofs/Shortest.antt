@@ -1,19 +1,16 @@
 -- What the waves leave is what the neighbours make each cell, and so the shortest lengths. A number that was found stands for a length, since
 -- its support does and a step adds its key; that no step would lower a number says, by the keys that numbers stand for and in whose order they
 -- are, that no neighbour offers less.
--- Assumes nothing.
 use mathlib.Core.Path.{_≡_, ap, ap₂, sym, subst, subst₂, _∙_}
 use mathlib.Core.Logic.{_⊎_, inl, inr}
 use mathlib.Core.List.{List}
 use Prim.Native.Nat.{ℕ, zero, suc, _+_, _-_, _*_, _/_, _%_, _≤_, _<_}
 use native.Mathlib.Omega.{arith}
-use native.Mathlib.Nat.{div-add-mod', le-refl, mod-lt}
-use native.Mathlib.Decide.{ℕ-discrete}
+use native.Mathlib.Nat.{le-refl}
 use Rattle.lengths.specs.declared.Length.{Length}
 use Rattle.lengths.specs.Order.{zeroLength, _⊕_, _⊑_}
 use Rattle.lengths.proofs.Keys.{straightKey, diagonalKey, key, key-order, pair, pair-back}
 use Rattle.steps.specs.Heading.{weight, byParity}
-use Rattle.steps.specs.Way.{Only}
 use Rattle.steps.proofs.Grid.{Floor, graph, cell, cell-column, cell-row}
 use Rattle.entries.specs.Entry.{Entry, mark, long}
 use Rattle.entries.specs.Filled.{Says}
@@ -25,17 +22,17 @@ use Rattle.storing.specs.Store.{keyOf, goalKey, entryOf, Proper, Keyed}
 use Rattle.storing.proofs.NumberKinds.{Kind, shut, waits, reached, kind}
 use Rattle.offers.proofs.Numbers.{like, stretch}
 use Rattle.waves.proofs.Adds.{steps-add, key-monotone}
-use Rattle.waves.proofs.OnWork.{Mapped, spot-column, spot-row, back, to-work, from-work, opens}
+use Rattle.waves.proofs.OnWork.{Mapped, placeOf, narrow, back, to-work, from-work, opens}
 
-module _ (floor : List ℕ) (goal : ℕ) (x : List ℕ) (s : Solved floor goal x) where
+module _ (floor x : List ℕ) (s : Solved floor x) where
   -- each number that was found stands for a length: that of the cell it was found from, and the step
   keyed-below : (n z : ℕ) → at x z ≤ n → 0 < at x z → at x z < unreached → Keyed (at x z)
   keyed-below zero z b o f = absurd (omega arith)
   keyed-below (suc n) z b o f = by (s .support z o f) (keyed-below n)
     where
-      by : (z ≡ goal) ⊎ Found floor x z (at x z) → ((y : ℕ) → at x y ≤ n → 0 < at x y → at x y < unreached → Keyed (at x y)) → Keyed (at x z)
+      by : (at floor z ≡ atGoal) ⊎ Found floor x z (at x z) → ((y : ℕ) → at x y ≤ n → 0 < at x y → at x y < unreached → Keyed (at x y)) → Keyed (at x z)
       by (inl e) ih =
-          let start : at x z ≡ atGoal = ap (at x) e ∙ s .start in
+          let start = s .start z e in
           record { length = zeroLength; sum = ap keyOf start; proper = record { low = omega arith; high = omega arith } }
       by (inr u) ih =
           let k = ih (u .cell) (omega (arith, u .sum, stretch (u .heading) (at x (u .cell)))) (s .free (u .cell) (u .step .from)) (u .found) in
@@ -59,28 +56,22 @@ module _ (floor : List ℕ) (goal : ℕ) (x : List ℕ) (s : Solved floor goal x
       let k : keyOf (at x z) - goalKey ≡ key l = omega arith in
       ap pair k ∙ pair-back l (few z f l e .1)
 
-module _ (f : Floor) (wide : 0 < f .width) (floor x : List ℕ) (m : Mapped f floor) (g : ℕ)
-    (s : Solved floor (spot (g % f .width) (g / f .width)) x) where
+-- the goal's cells, any that can be told from the others, have the goal's number, and they alone
+pub record GoalNumbers (f : Floor) (floor : List ℕ) (Goal : ℕ → Type 0) : Type 0 where
+  pub told : (y : ℕ) → Dec (Goal y)
+  pub has : (y : ℕ) → Goal y → at floor (placeOf f y) ≡ atGoal
+  pub alone : (y : ℕ) → at floor (placeOf f y) ≡ atGoal → Goal y
+
+module _ (f : Floor) (wide : 0 < f .width) (floor x : List ℕ) (m : Mapped f floor) (Goal : ℕ → Type 0) (goals : GoalNumbers f floor Goal)
+    (s : Solved floor x) where
   abbrev place : ℕ → ℕ
-  place y = spot (y % f .width) (y / f .width)
+  place = placeOf f
 
   abbrev T : ℕ → Entry
   T y = entryOf (at x (place y))
 
-  abbrev Goal : ℕ → Type 0
-  Goal = Only g
-
-  narrow : (y : ℕ) → y % f .width < stride
-  narrow y = omega (arith, mod-lt y wide, m .narrow)
-
-  same-cell : (y z : ℕ) → place y ≡ place z → y ≡ z
-  same-cell y z e =
-      let a = spot-column (y % f .width) (y / f .width) (z % f .width) (z / f .width) (narrow y) (narrow z) e in
-      let b = spot-row (y % f .width) (y / f .width) (z % f .width) (z / f .width) (narrow y) (narrow z) e in
-      sym (div-add-mod' y (f .width)) ∙ ap₂ (λ (u v : ℕ). u * f .width + v) b a ∙ div-add-mod' z (f .width)
-
-  at-goal : T g ≡ long zeroLength
-  at-goal = ap entryOf (s .start) ∙ by (kind atGoal)
+  at-goal : (y : ℕ) → Goal y → T y ≡ long zeroLength
+  at-goal y e = ap entryOf (s .start (place y) (goals .has y e)) ∙ by (kind atGoal)
     where
       by : Kind atGoal → entryOf atGoal ≡ long zeroLength
       by (shut e p) = absurd (omega arith)
@@ -116,9 +107,9 @@ module _ (f : Floor) (wide : 0 < f .width) (floor x : List ℕ) (m : Mapped f fl
       → Least (graph f) T y (long (pair (keyOf (at x (place y)) - goalKey)))
   lengths y other o k = (some (s .support (place y) o k), all)
     where
-      some : (place y ≡ place g) ⊎ Found floor x (place y) (at x (place y))
+      some : (at floor (place y) ≡ atGoal) ⊎ Found floor x (place y) (at x (place y))
           → (h : ℕ) × (z : ℕ) × (n : Length) × (graph f) .Step h y z × (T z ≡ long n) × (pair (keyOf (at x (place y)) - goalKey) ≡ n ⊕ weight h)
-      some (inl e) = absurd (other (same-cell y g e))
+      some (inl e) = absurd (other (goals .alone y e))
       some (inr u) =
           let from = u .step .from in
           let c = m .column (u .cell) from in
@@ -129,13 +120,13 @@ module _ (f : Floor) (wide : 0 < f .width) (floor x : List ℕ) (m : Mapped f fl
           let zc = cell-column f c r in-width in
           let zr = cell-row f c r in-width in
           let at-z : place z ≡ u .cell = ap₂ spot zc zr ∙ sym (m .place (u .cell) from) in
-          let o′ = opens f floor m (y % f .width) (y / f .width) (narrow y) (u .step .to) in
+          let o′ = opens f floor m (y % f .width) (y / f .width) (narrow f wide (m .narrow) y) (u .step .to) in
           let p′ : f .Open (z % f .width) (z / f .width) = subst₂ (f .Open) (sym zc) (sym zr) p in
           let st = subst (λ (i : ℕ). WorkStep floor (u .heading) i (place y)) (sym at-z) (u .step) in
           let go = from-work f floor m ((u .heading + 4) % 8) _ _ _ _ o′ p′ (back floor (u .heading) (place z) (place y) (low z) (low y) st) in
           let same : at x (place z) ≡ at x (u .cell) = ap (at x) at-z in
           let free = s .free (u .cell) from in
-          let kz = keyed floor (place g) x s (place z) (omega arith) (omega (arith, u .found)) in
+          let kz = keyed floor x s (place z) (omega arith) (omega (arith, u .found)) in
           let n = kz .length in
           let parity : (u .heading + 4) % 8 % 2 ≡ u .heading % 2 = omega arith in
           let e : weight ((u .heading + 4) % 8) ≡ weight (u .heading) = ap byParity parity in
@@ -143,7 +134,7 @@ module _ (f : Floor) (wide : 0 < f .width) (floor x : List ℕ) (m : Mapped f fl
           let found = ap keyOf (u .sum ∙ ap (stepped (u .heading)) (sym same)) ∙ steps-add (u .heading) (at x (place z)) .sum in
           let sum : keyOf (at x (place y)) ≡ goalKey + key (n ⊕ weight (u .heading)) =
           found ∙ ap (λ (v : ℕ). v + key (weight (u .heading))) (kz .sum) ∙ omega arith in
-          let read-y = read floor (place g) x s (place y) k (n ⊕ weight (u .heading)) sum in
+          let read-y = read floor x s (place y) k (n ⊕ weight (u .heading)) sum in
           ((u .heading + 4) % 8, z, n, go, entry-z, read-y ∙ ap (λ (d : Length). n ⊕ d) (sym e))
         where
           reads : (z : ℕ) → 0 < at x (place z) → at x (place z) < unreached → (n : Length) → keyOf (at x (place z)) ≡ goalKey + key n
@@ -153,7 +144,7 @@ module _ (f : Floor) (wide : 0 < f .width) (floor x : List ℕ) (m : Mapped f fl
               by : Kind (at x (place z)) → T z ≡ long n
               by (shut d p) = absurd (omega arith)
               by (waits d p) = absurd (omega arith)
-              by (reached d b p) = p ∙ ap long (read floor (place g) x s (place z) k n e)
+              by (reached d b p) = p ∙ ap long (read floor x s (place z) k n e)
 
       all : (h z : ℕ) (n : Length) → (graph f) .Step h y z → T z ≡ long n → pair (keyOf (at x (place y)) - goalKey) ⊑ n ⊕ weight h
       all h z n u e = by (kind (at x (place z)))
@@ -162,16 +153,16 @@ module _ (f : Floor) (wide : 0 < f .width) (floor x : List ℕ) (m : Mapped f fl
           by (shut d p) = absurd (no-mark (sym e ∙ p))
           by (waits d p) = absurd (no-mark (sym e ∙ p))
           by (reached d b p) =
-              let ky = keyed floor (place g) x s (place y) o k in
-              let kz = keyed floor (place g) x s (place z) d b in
+              let ky = keyed floor x s (place y) o k in
+              let kz = keyed floor x s (place z) d b in
               let add = steps-add h (at x (place z)) in
-              let same : n ≡ kz .length = long-inj (sym e ∙ p) ∙ read floor (place g) x s (place z) b (kz .length) (kz .sum) in
-              subst₂ _⊑_ (sym (read floor (place g) x s (place y) k (ky .length) (ky .sum))) (ap (λ (d : Length). d ⊕ weight h) (sym same))
-              (key-order (ky .length) (kz .length ⊕ weight h) (few floor (place g) x s (place y) k (ky .length) (ky .sum) .0)
+              let same : n ≡ kz .length = long-inj (sym e ∙ p) ∙ read floor x s (place z) b (kz .length) (kz .sum) in
+              subst₂ _⊑_ (sym (read floor x s (place y) k (ky .length) (ky .sum))) (ap (λ (d : Length). d ⊕ weight h) (sym same))
+              (key-order (ky .length) (kz .length ⊕ weight h) (few floor x s (place y) k (ky .length) (ky .sum) .0)
               (omega (arith, key-monotone _ _ (ky .proper) (add .proper (kz .proper)) (over h y z u b), add .sum, ky .sum, kz .sum)))
 
   made : (y : ℕ) → Made (graph f) Goal T y (T y)
-  made y = record { at-goal = λ e. ap T e ∙ at-goal; elsewhere = λ other. by other (kind (at x (place y))) }
+  made y = record { at-goal = at-goal y; elsewhere = λ other. by other (kind (at x (place y))) }
     where
       by : ¬ Goal y → Kind (at x (place y)) → Least (graph f) T y (T y)
       by other (shut e p) = subst (Least (graph f) T y) (sym p) (marks y (inl e))
@@ -179,4 +170,4 @@ module _ (f : Floor) (wide : 0 < f .width) (floor x : List ℕ) (m : Mapped f fl
       by other (reached o k p) = subst (Least (graph f) T y) (sym p) (lengths y other o k)
 
   pub says : (y : ℕ) → Says (graph f) Goal y (T y)
-  says = sound (graph f) Goal (λ y. ℕ-discrete y g) T made
+  says = sound (graph f) Goal (goals .told) T made

@@ -1,5 +1,4 @@
 -- From the map to the table: the loaded work array is the floor, so what the waves leave is the shortest lengths, and what is stored says so.
--- Assumes nothing.
 use mathlib.Core.Path.{_≡_, refl, ap, ap₂, sym, subst, subst₂, _∙_}
 use mathlib.Core.Logic.{_⊎_, inl, inr}
 use mathlib.Core.Bool.{Bool, true, false}
@@ -8,7 +7,7 @@ use Prim.Native.Nat.{ℕ, zero, suc, _+_, _-_, _*_, _/_, _%_, _≤_, _<_}
 use native.Mathlib.Omega.{arith}
 use native.Mathlib.Nat.{mod-lt, mul-le-mul}
 use lib.ListN.{getD, length, set, length-set, replicate, length-replicate, getD-replicate, List·getD-eq-default}
-use native.Mathlib.Decide.{decLe}
+use native.Mathlib.Decide.{decLe, ℕ-discrete}
 use lib.Seq.{getD-set-same}
 use lib.Dec.{T as Holds}
 use borrow.Author.Tests.{lt-ltb}
@@ -19,13 +18,13 @@ use Rattle.steps.specs.Way.{Only}
 use Rattle.steps.proofs.Leads.{open-column, open-row, floor, Past, past}
 use Rattle.entries.specs.Filled.{Filled}
 use Rattle.offers.specs.Work.{unreached, stride, largest, atGoal, at, spot, Inside}
-use Rattle.passes.specs.Solved.{Loaded, Solved}
+use Rattle.passes.specs.Solved.{Loaded, Goals, Solved}
 use Rattle.loading.specs.Load.{numberOf, loaded, Prefix}
 use Rattle.storing.specs.Store.{entryOf, Storable, Stored}
 use Rattle.waves.specs.Fill.{Fillable, Scratch}
 use Rattle.offers.proofs.Changed.{each, waiting-set}
-use Rattle.waves.proofs.OnWork.{Mapped}
-use Rattle.waves.proofs.Shortest.{keyed, says}
+use Rattle.waves.proofs.OnWork.{Mapped, placeOf, same-cell}
+use Rattle.waves.proofs.Shortest.{keyed, GoalNumbers, says}
 use Rattle.loading.proofs.MapLoaded.{prefix-all}
 
 -- what is read inside a list does not depend on what stands for the rest
@@ -108,20 +107,41 @@ module _ (m : Map) (goal entries : ℕ) (a : Fillable m goal entries) (x : List 
       let n = a .sound .wide in
       record { low = omega (arith, q .column, q .row); high = omega (arith, q .column, q .row, p .tall, length-set x g atGoal) }
 
-  pub ready : (q : List ℕ) → length x ≤ largest → length q ≡ entries → Loaded x′ q g
+  kinds : (z : ℕ) → (at x z ≡ 0) ⊎ (at x z ≡ unreached)
   unfolding loaded
+  kinds z = subst (λ (v : ℕ). (v ≡ 0) ⊎ (v ≡ unreached)) (sym (loaded-value z)) (number-kinds (openPast m (z % stride) (z / stride)))
+
+  pub ready : (q : List ℕ) → length x ≤ largest → length q ≡ entries → Loaded x′ q
   ready q few size = record {
     few = omega (arith, length-set x g atGoal);
     small = omega (arith, a .table, mul-le-mul (a .sound .high) (a .sound .wide));
     enough =
         omega (arith, a .table, p .few, waiting-set x g atGoal goal-on, waits (goal % m .width) (goal / m .width) (a .chosen .free));
-    start = getD-set-same x g atGoal 0 goal-on;
-    kinds = each x g atGoal goal-on (λ z v. (z ≡ g) ⊎ ((v ≡ 0) ⊎ (v ≡ unreached))) (inl refl) (λ z e. inr (kinds z));
+    kinds = each x g atGoal goal-on (λ z v. (v ≡ atGoal) ⊎ ((v ≡ 0) ⊎ (v ≡ unreached))) (inl refl) (λ z e. inr (kinds z));
     border = border;
   }
+
+  -- the goal's place has the goal's number, and no other place
+  alone : (z : ℕ) → at x′ z ≡ atGoal → z ≡ g
+  alone = each x g atGoal goal-on (λ z v. v ≡ atGoal → z ≡ g) (λ e. refl) (λ z d e. absurd (other (kinds z) e))
     where
-      kinds : (z : ℕ) → (at x z ≡ 0) ⊎ (at x z ≡ unreached)
-      kinds z = subst (λ (v : ℕ). (v ≡ 0) ⊎ (v ≡ unreached)) (sym (loaded-value z)) (number-kinds (openPast m (z % stride) (z / stride)))
+      other : {v : ℕ} → (v ≡ 0) ⊎ (v ≡ unreached) → ¬ (v ≡ atGoal)
+      other (inl p) e = omega arith
+      other (inr p) e = omega arith
+
+  pub goals : (n : ℕ) → n ≡ g → Goals x′ (n ∷ [])
+  goals n e = record {
+    few = omega arith;
+    are = λ i k. let z : i ≡ 0 = omega arith in ap (λ (j : ℕ). at x′ (getD (n ∷ []) j 0)) z ∙ ap (at x′) e ∙ getD-set-same x g atGoal 0 goal-on;
+    all = λ z k. record { index = 0; here = e ∙ sym (alone z k); after = omega arith; before = omega arith };
+  }
+
+  goal-numbers : GoalNumbers (floor m) x′ (Only goal)
+  goal-numbers = record {
+    told = λ y. ℕ-discrete y goal;
+    has = λ y e. ap (λ (c : ℕ). at x′ (placeOf (floor m) c)) e ∙ getD-set-same x g atGoal 0 goal-on;
+    alone = λ y e. same-cell (floor m) (a .sound .some-wide) (a .sound .wide) y goal (alone _ e);
+  }
 
   mapped : Mapped (floor m) x′
   mapped = record {
@@ -133,13 +153,13 @@ module _ (m : Map) (goal entries : ℕ) (a : Fillable m goal entries) (x : List 
     place = λ z o. let q = behind z o in omega (arith, q .column, q .row);
   }
 
-  module _ (x″ : List ℕ) (s : Solved x′ g x″) where
+  module _ (x″ : List ℕ) (s : Solved x′ x″) where
     pub storable : Storable (m .width) (m .height) x″
     storable = record {
       wide = a .sound .wide;
       high = a .sound .high;
       tall = omega (arith, p .tall, s .cells, length-set x g atGoal);
-      all = λ z. record { keyed = keyed x′ g x″ s z; below = s .below z };
+      all = λ z. record { keyed = keyed x′ x″ s z; below = s .below z };
     }
 
     pub filled : (t : List ℕ) → Stored (m .width) (m .height) x″ (cells m) t → Filled (stepsOf m) (Only goal) (cells m) t
@@ -147,7 +167,7 @@ module _ (m : Map) (goal entries : ℕ) (a : Fillable m goal entries) (x : List 
       size = st .size;
       entries = λ y k. record {
         what = entryOf (at x″ (spot (y % m .width) (y / m .width)));
-        says = says (floor m) (a .sound .some-wide) x′ x″ mapped goal s y;
+        says = says (floor m) (a .sound .some-wide) x′ x″ mapped (Only goal) goal-numbers s y;
         same = getD-any t y 4294967295 0 (omega (arith, st .size)) ∙ st .done y k;
       };
     }

@@ -33,7 +33,8 @@ fn fill_in(
     loading::load_map(work, width, height, map);
     let place = (goal / width + 1) * offers::STRIDE + goal % width + 1;
     work[place] = offers::GOAL;
-    passes::all_waves(work, table, place);
+    let goals = [place as u32];
+    passes::all_waves(work, table, &goals);
     storing::store_table(work, width, height, table);
 }
 
