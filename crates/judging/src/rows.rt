@@ -16,7 +16,7 @@ fn differs(window: &[u32; 390], place: usize, start: u32) -> u32
     ensures { λ r. ⌜ r ≡ differsIn (now (window .entry)) place start ⌝ }
 {
     let number = window[place];
-    if number == crate::offers::least(window, place, start) {
+    if number == crate::least::least(window, place, start) {
         return 0;
     }
     if number == WALL {

@@ -1,4 +1,4 @@
--- `judging::offers::least` meets its contract. The invariant: so far it is the least of the start and what the headings passed offer.
+-- `judging::least::least` meets its contract. The invariant: so far it is the least of the start and what the headings passed offer.
 -- Assumes nothing.
 use mathlib.Core.Path.{_≡_, ap, _∙_}
 use Prim.Native.Nat.{_-_, _≤_}
@@ -6,8 +6,8 @@ use native.Mathlib.Omega.{arith}
 use borrow.Author.Needs.{needs}
 use Rattle.judging.specs.Window.{leastIn}
 use Rattle.judging.proofs.Turns.{least-none, least-more}
-use Rattle.judging.proofs.offers.least.Statement.{statement}
-use Rattle.judging.proofs.offers.least.Tie as tie
+use Rattle.judging.proofs.least.least.Statement.{statement}
+use Rattle.judging.proofs.least.least.Tie as tie
 
 abbrev Inv-loop : tie.InvT-loop
 Inv-loop x place start least₀ heading₀ least heading = (heading ≤ 8) × (least ≡ leastIn x place start heading)

@@ -1,4 +1,4 @@
--- `judging::offers::offer` meets its contract: the heading's changes are at most 2 each, and its key is one step's.
+-- `judging::least::offer` meets its contract: the heading's changes are at most 2 each, and its key is one step's.
 -- Assumes nothing.
 use mathlib.Core.Path.{ap, ap₂, _∙_}
 use Prim.Native.Nat.{ℕ, _%_}
@@ -8,8 +8,8 @@ use Rattle.steps.specs.declared.Change.{Change}
 use Rattle.steps.specs.Step.{one-step}
 use Rattle.steps.proofs.Headings.{change-small}
 use Rattle.judging.specs.Window.{offeredIn}
-use Rattle.judging.proofs.offers.offer.Statement.{statement}
-use Rattle.judging.proofs.offers.offer.Tie as tie
+use Rattle.judging.proofs.least.offer.Statement.{statement}
+use Rattle.judging.proofs.least.offer.Tie as tie
 
 change-of-requires : tie.Need-change-of-requires
 change-of-requires c κs = search needs

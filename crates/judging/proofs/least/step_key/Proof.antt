@@ -1,10 +1,10 @@
--- `judging::offers::step_key` meets its contract: each return is one case of the heading's parity.
+-- `judging::least::step_key` meets its contract: each return is one case of the heading's parity.
 -- Assumes nothing.
 use mathlib.Core.Path.{_≡_}
 use Prim.Native.Nat.{_%_}
 use native.Mathlib.Omega.{arith}
-use Rattle.judging.proofs.offers.step_key.Statement.{statement}
-use Rattle.judging.proofs.offers.step_key.Tie as tie
+use Rattle.judging.proofs.least.step_key.Statement.{statement}
+use Rattle.judging.proofs.least.step_key.Tie as tie
 
 returns : tie.Need-returns
 returns c = rw (c .if1 .taken)

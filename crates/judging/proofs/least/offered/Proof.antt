@@ -1,4 +1,4 @@
--- `judging::offers::offered` meets its contract: three numbers of the window and a key, none of which is above that of a blocked cell, fit together.
+-- `judging::least::offered` meets its contract: three numbers of the window and a key, none of which is above that of a blocked cell, fit together.
 -- Assumes nothing.
 use mathlib.Core.Path.{ap₂}
 use Prim.Native.Nat.{ℕ, _+_, _-_, _*_}
@@ -6,8 +6,8 @@ use lib.ListN.{getD}
 use native.Mathlib.Omega.{arith}
 use borrow.Author.Needs.{needs}
 use Rattle.judging.specs.Window.{offeredIn}
-use Rattle.judging.proofs.offers.offered.Statement.{statement}
-use Rattle.judging.proofs.offers.offered.Tie as tie
+use Rattle.judging.proofs.least.offered.Statement.{statement}
+use Rattle.judging.proofs.least.offered.Tie as tie
 
 mul-to : tie.Need-mul-to
 mul-to c = search needs
