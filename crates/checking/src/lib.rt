@@ -9,9 +9,9 @@ ghost use Rattle.floor.specs.Inner.{Ready};
 ghost use Rattle.entries.specs.Made.{Right, Judged};
 ghost use Rattle.judging.specs.Window.{Window};
 ghost use Rattle.checking.specs.Window.{Walled, RowJudged};
-use judging::numbers::WALL;
+use judging::cell_numbers::WALL;
 
-mod numbers;
+mod cell_numbers;
 mod window;
 
 // The first column of a row of the floor whose cell is not right; the window shows the row above and the row, and then the next one too.

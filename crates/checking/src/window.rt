@@ -6,7 +6,7 @@ ghost use lib.ListN.{getD, length};
 ghost use Rattle.floor.specs.Floor.{mapOf};
 ghost use Rattle.judging.specs.Number.{wall, numberAt};
 ghost use Rattle.checking.specs.Window.{Written, Loading};
-use judging::numbers::WALL;
+use judging::cell_numbers::WALL;
 
 // The place of the first column in the last row.
 pub const LAST: usize = 261;
@@ -28,7 +28,7 @@ fn load_row(
 {
     let mut column: usize = 0;
     while column < width {
-        window[from + column] = crate::numbers::number_at(map, table, width, height, column, row);
+        window[from + column] = crate::cell_numbers::number_at(map, table, width, height, column, row);
         column += 1;
     }
 }

@@ -4,9 +4,9 @@ ghost use Prim.Native.Nat.{_≤_, _<_, min};
 ghost use Rattle.lengths.proofs.Keys.{key};
 ghost use Rattle.steps.specs.Heading.{weight};
 ghost use Rattle.judging.specs.Window.{Low, shutOf, offeredIn, offerIn, leastIn};
-use crate::numbers::DIAGONAL;
-use crate::numbers::STRAIGHT;
-use crate::numbers::WALL;
+use crate::cell_numbers::DIAGONAL;
+use crate::cell_numbers::STRAIGHT;
+use crate::cell_numbers::WALL;
 
 // The lesser of two.
 fn lesser(a: u32, b: u32) -> u32

@@ -3,8 +3,8 @@ ghost use mathlib.Core.Path.{_≡_};
 ghost use Prim.Native.Nat.{_≤_, _<_};
 ghost use Rattle.entries.specs.Made.{Judged};
 ghost use Rattle.judging.specs.Window.{Low, differsIn, startOf, differsAt, differing, goalColumn};
-use crate::numbers::NONE;
-use crate::numbers::WALL;
+use crate::cell_numbers::NONE;
+use crate::cell_numbers::WALL;
 
 // The place of the first column in the middle row.
 pub const MIDDLE: usize = 131;

@@ -1,4 +1,4 @@
--- `checking::numbers::number_of` meets its contract: each return is one case of the bit.
+-- `checking::cell_numbers::number_of` meets its contract: each return is one case of the bit.
 -- Assumes nothing.
 use mathlib.Core.Path.{ap}
 use Prim.Native.Nat.{ℕ, _+_}
@@ -6,8 +6,8 @@ use native.Mathlib.Omega.{arith}
 use Rattle.judging.specs.Number.{wall, numberOf}
 use Rattle.judging.proofs.CellNumbers.{not-mark-low}
 use borrow.Author.Needs.{needs}
-use Rattle.checking.proofs.numbers.number_of.Statement.{statement}
-use Rattle.checking.proofs.numbers.number_of.Tie as tie
+use Rattle.checking.proofs.cell_numbers.number_of.Statement.{statement}
+use Rattle.checking.proofs.cell_numbers.number_of.Tie as tie
 
 not-mark-requires : tie.Need-not-mark-requires
 not-mark-requires c κs = search needs

@@ -5,10 +5,10 @@ ghost use lib.ListN.{length};
 ghost use Rattle.calls.specs.CallTests.{Fitting};
 ghost use Rattle.floor.specs.Floor.{mapOf};
 ghost use Rattle.judging.specs.Number.{notMark, openNumber, numberOf, numberAt};
-use judging::numbers::DIAGONAL;
-use judging::numbers::NONE;
-use judging::numbers::STRAIGHT;
-use judging::numbers::WALL;
+use judging::cell_numbers::DIAGONAL;
+use judging::cell_numbers::NONE;
+use judging::cell_numbers::STRAIGHT;
+use judging::cell_numbers::WALL;
 
 // The mark of a table.
 const MARK: u32 = 4294967295;

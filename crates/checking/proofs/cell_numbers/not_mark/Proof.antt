@@ -1,8 +1,8 @@
--- `checking::numbers::not_mark` meets its contract: each return is one case of the test.
+-- `checking::cell_numbers::not_mark` meets its contract: each return is one case of the test.
 -- Assumes nothing.
 use borrow.Author.Tests.{eq-eqb, ne-eqb}
-use Rattle.checking.proofs.numbers.not_mark.Statement.{statement}
-use Rattle.checking.proofs.numbers.not_mark.Tie as tie
+use Rattle.checking.proofs.cell_numbers.not_mark.Statement.{statement}
+use Rattle.checking.proofs.cell_numbers.not_mark.Tie as tie
 
 returns : tie.Need-returns
 returns c = rw (eq-eqb _ 4294967295 (c .if1 .taken))

@@ -1,10 +1,10 @@
--- `checking::numbers::number_at` meets its contract: the cell has an entry, and its number is made of the bit and the entry.
+-- `checking::cell_numbers::number_at` meets its contract: the cell has an entry, and its number is made of the bit and the entry.
 -- Assumes nothing.
 use native.Mathlib.Omega.{arith}
 use borrow.Author.Needs.{needs}
 use Rattle.judging.proofs.CellNumbers.{in-table, number-read}
-use Rattle.checking.proofs.numbers.number_at.Statement.{statement}
-use Rattle.checking.proofs.numbers.number_at.Tie as tie
+use Rattle.checking.proofs.cell_numbers.number_at.Statement.{statement}
+use Rattle.checking.proofs.cell_numbers.number_at.Tie as tie
 
 blocked-at-requires : tie.Need-blocked-at-requires
 blocked-at-requires c κs = search needs

@@ -1,4 +1,4 @@
--- `checking::numbers::open_number` meets its contract: both parts are below 16,384 exactly if their quotients by it add up to 0.
+-- `checking::cell_numbers::open_number` meets its contract: both parts are below 16,384 exactly if their quotients by it add up to 0.
 -- Assumes nothing.
 use native.Mathlib.Omega.{arith}
 use mathlib.Core.Path.{sym, ap, _∙_}
@@ -6,8 +6,8 @@ use Prim.Native.Nat.{ℕ, _+_}
 use borrow.Author.Needs.{needs}
 use Rattle.judging.specs.Number.{none}
 use Rattle.judging.proofs.CellNumbers.{open-good, open-bad, not-mark-low}
-use Rattle.checking.proofs.numbers.open_number.Statement.{statement}
-use Rattle.checking.proofs.numbers.open_number.Tie as tie
+use Rattle.checking.proofs.cell_numbers.open_number.Statement.{statement}
+use Rattle.checking.proofs.cell_numbers.open_number.Tie as tie
 
 add-if1 : tie.Need-add-if1
 add-if1 c = search needs
