@@ -1,5 +1,4 @@
 -- Row after row: what is known where a row is about to be judged, and what each way out of the loop over the rows shows.
--- Assumes nothing.
 use mathlib.Core.Path.{_≡_, refl, ap, sym, subst, subst₂, _∙_}
 use mathlib.Core.Logic.{_↔_}
 use mathlib.Core.Bool.{Bool}
@@ -21,8 +20,9 @@ use Rattle.floor.specs.Inner.{Ready}
 use Rattle.entries.specs.Made.{Right, Judged}
 use Rattle.judging.specs.Number.{none, numberAt}
 use Rattle.judging.specs.Window.{goalColumn, startOf, differsAt, Window}
-use Rattle.checking.specs.Window.{Written, Walled, RowJudged}
-use Rattle.checking.proofs.Writing.{written-as}
+use Rattle.checking.specs.Window.{Walled, RowJudged}
+use Rattle.entries.specs.Written.{Written}
+use Rattle.entries.proofs.Writing.{written-as}
 use Rattle.judging.proofs.Turns.{all-judged}
 use Rattle.checking.proofs.Windows.{walled-window, row-written, moved-down}
 use Rattle.judging.proofs.Deciding.{tells-only}

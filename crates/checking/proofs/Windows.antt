@@ -1,5 +1,4 @@
 -- The window over a floor, row after row: what it shows, and that writing a row and moving down keep it.
--- Assumes nothing.
 use mathlib.Core.Path.{_≡_, ap, ap₂, sym, _∙_}
 use mathlib.Core.Logic.{_⊎_, inl, inr, ⊎-elim}
 use mathlib.Core.List.{List}
@@ -11,7 +10,8 @@ use lib.ListN.{getD, replicate, length-replicate, getD-replicate}
 use Rattle.floor.specs.Floor.{Map}
 use Rattle.judging.specs.Number.{wall, numberAt}
 use Rattle.judging.specs.Window.{Window}
-use Rattle.checking.specs.Window.{Written, Walled}
+use Rattle.checking.specs.Window.{Walled}
+use Rattle.entries.specs.Written.{Written}
 use Rattle.judging.proofs.CellNumbers.{west, north, east, number-off}
 
 -- a window made of walls

@@ -1,9 +1,7 @@
--- The window that goes down the floor: what is written into it, and what it shows once a row is judged.
--- Assumes nothing.
+-- The window that goes down the floor: where a row is written into it, and what it shows once a row is judged.
 use mathlib.Core.Path.{_≡_}
-use mathlib.Core.Logic.{_⊎_}
 use mathlib.Core.List.{List}
-use Prim.Native.Nat.{ℕ, _+_, _≤_, _<_}
+use Prim.Native.Nat.{ℕ, _≤_, _<_}
 use lib.ListN.{length, getD}
 use Rattle.calls.specs.CallTests.{Fitting}
 use Rattle.floor.specs.Floor.{Map, cellOf}
@@ -12,12 +10,6 @@ use Rattle.steps.specs.Way.{Only}
 use Rattle.entries.specs.Made.{Right, Judged}
 use Rattle.judging.specs.Number.{wall}
 use Rattle.judging.specs.Window.{Window}
-
--- y is x with count numbers written from a place on
-pub record Written (number : ℕ → ℕ) (from count : ℕ) (x y : List ℕ) : Type 0 where
-  pub size : length y ≡ length x
-  pub inside : (i : ℕ) → i < count → getD y (from + i) 0 ≡ number i
-  pub outside : (z : ℕ) → (z < from) ⊎ (from + count ≤ z) → getD y z 0 ≡ getD x z 0
 
 -- a row of the floor, or the one below the last, is to be written from a place on
 pub record Loading (m : Map) (entries from row : ℕ) : Type 0 where

@@ -5,13 +5,11 @@ ghost use lib.ListN.{length};
 ghost use Rattle.calls.specs.CallTests.{Fitting};
 ghost use Rattle.floor.specs.Floor.{mapOf};
 ghost use Rattle.judging.specs.Number.{notMark, openNumber, numberOf, numberAt};
+use entries::MARK;
 use judging::cell_numbers::DIAGONAL;
 use judging::cell_numbers::NONE;
 use judging::cell_numbers::STRAIGHT;
 use judging::cell_numbers::WALL;
-
-// The mark of a table.
-const MARK: u32 = 4294967295;
 
 // 1 for an entry that is not the mark, else 0.
 fn not_mark(entry: u32) -> u32

@@ -5,7 +5,8 @@ ghost use Prim.Native.Nat.{_+_, _≤_, _<_};
 ghost use lib.ListN.{getD, length};
 ghost use Rattle.floor.specs.Floor.{mapOf};
 ghost use Rattle.judging.specs.Number.{wall, numberAt};
-ghost use Rattle.checking.specs.Window.{Written, Loading};
+ghost use Rattle.checking.specs.Window.{Loading};
+ghost use Rattle.entries.specs.Written.{Written};
 use judging::cell_numbers::WALL;
 
 // The place of the first column in the last row.
@@ -28,7 +29,14 @@ fn load_row(
 {
     let mut column: usize = 0;
     while column < width {
-        window[from + column] = crate::cell_numbers::number_at(map, table, width, height, column, row);
+        window[from + column] = crate::cell_numbers::number_at(
+            map,
+            table,
+            width,
+            height,
+            column,
+            row,
+        );
         column += 1;
     }
 }

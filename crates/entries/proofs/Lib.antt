@@ -1,3 +1,5 @@
+pub mod Lists
+pub mod Writing
 pub mod Neighbours
 pub mod Best
 pub mod Packing

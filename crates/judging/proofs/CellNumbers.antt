@@ -1,10 +1,9 @@
 -- The number of a cell: which entry it stands for, that open cells stand below the wall and blocked ones not, and that the lesser of
 -- two entries has the lesser number.
--- Assumes nothing.
 use mathlib.Core.Path.{_≡_, refl, ap₂, sym, subst, _∙_}
 use mathlib.Core.Bool.{Bool, true, false, not, true≢false, false≢true}
-use mathlib.Core.List.{List, [], _∷_}
-use Prim.Native.Nat.{ℕ, zero, suc, _+_, _-_, _/_, _%_, min, _≤_, _<_}
+use mathlib.Core.List.{List}
+use Prim.Native.Nat.{ℕ, _+_, _-_, _/_, _%_, min, _≤_, _<_}
 use native.Mathlib.Omega.{arith}
 use lib.Dec.{T as Holds, ltb, eqb}
 use lib.Arith.{digits-lt}
@@ -24,6 +23,7 @@ use Rattle.floor.proofs.Joined.{both-true}
 use Rattle.steps.proofs.OnMap.{few-cells}
 use Rattle.entries.specs.Entry.{Entry, mark, long, partsOf, malformed, read}
 use Rattle.entries.specs.Best.{lesser}
+use Rattle.entries.proofs.Lists.{getD-any}
 use Rattle.judging.specs.Number.{none, wall, keyOf, notMark, openNumber, numberOf, onFloor, numberAt}
 
 -- what an entry is, and its number in an open cell
@@ -107,12 +107,6 @@ number-on m t c r p q =
     let r′ : r + 1 - 1 ≡ r = omega arith in
     rw (lt-ltb 0 (c + 1) (omega arith), lt-ltb 0 (r + 1) (omega arith), c′, r′, lt-ltb c (m .width) p, lt-ltb r (m .height) q)
 
--- an element that is there does not depend on what a list has past its end
-within-list : (l : List ℕ) (i a b : ℕ) → i < length l → getD l i a ≡ getD l i b
-within-list [] i a b h = absurd (omega arith)
-within-list (v ∷ l) zero a b h = refl
-within-list (v ∷ l) (suc i) a b h = within-list l i a b (omega arith)
-
 -- a cell of the floor has an entry, and there are not many
 pub in-table : (m : Map) (entries c r : ℕ) → Fitting m entries → c < m .width → r < m .height → (cellOf m c r < entries) × (entries ≤ 16384)
 in-table m entries c r f p q = (
@@ -124,7 +118,7 @@ in-table m entries c r f p q = (
 pub number-read : (m : Map) (t : List ℕ) (c r n : ℕ) (b : Bool) → Fitting m (length t) → c < m .width → r < m .height → b ≡ blocked m c r
     → n ≡ numberOf b (getD t (cellOf m c r) 0) → n ≡ numberAt m t (c + 1) (r + 1)
 number-read m t c r n b fits p q e f =
-    f ∙ ap₂ numberOf e (within-list t (cellOf m c r) 0 4294967295 (in-table m (length t) c r fits p q .0)) ∙ sym (number-on m t c r p q)
+    f ∙ ap₂ numberOf e (getD-any t (cellOf m c r) 0 4294967295 (in-table m (length t) c r fits p q .0)) ∙ sym (number-on m t c r p q)
 
 -- a cell on the floor is open where it is not blocked
 pub open-on : (m : Map) (c r : ℕ) → c < m .width → r < m .height → openPast m (c + 1) (r + 1) ≡ not (blocked m c r)

@@ -8,7 +8,6 @@
 -- exactly if its number is that key, that is if its entry is well-formed and packs what its neighbours make it.
 -- A blocked cell's number is the wall or above, where the least never is. So it does not differ exactly if its number is the wall, that
 -- is if its entry is the mark, and its neighbours make it the mark, since no step leaves it.
--- Assumes nothing.
 use mathlib.Core.Path.{_≡_, refl, ap, ap₂, sym, subst₂, _∙_}
 use mathlib.Core.Logic.{_⊎_, inl, inr, _↔_}
 use mathlib.Core.Bool.{Bool, true, false, not}
@@ -27,7 +26,7 @@ use Rattle.floor.specs.Floor.{Map, Open, blocked, open?, cellOf}
 use Rattle.steps.specs.Heading.{changeOf, weight}
 use Rattle.steps.specs.Leading.{openPast, permitted, leadOf}
 use Rattle.steps.specs.Step.{stepsOf, one-step}
-use Rattle.steps.proofs.Headings.{change-small}
+use Rattle.steps.proofs.Headings.{changes-of}
 use Rattle.entries.specs.Entry.{Entry, mark, long, entryAt}
 use Rattle.entries.specs.Made.{Made, Right}
 use Rattle.entries.specs.Best.{offer, best, made}
@@ -89,11 +88,11 @@ module _ (m : Map) (t : List ℕ) (row : ℕ) (x : List ℕ) (w : Window m t row
       + shutOf (numberAt m t (c + changeOf h .column) (row + 1))
   unfolding offeredIn
   offer-at c h p q =
-      let (a, d) = change-small h q in
+      let s = changes-of h q in
       rw (
-        at-place (131 + c + changeOf h .row * 130 + changeOf h .column - 131) (c + changeOf h .column) (changeOf h .row) (omega arith) (omega arith) d,
-        at-place (131 + c + changeOf h .row * 130 - 130) (c + 1) (changeOf h .row) (omega arith) (omega arith) d,
-        at-place (131 + c + changeOf h .column - 1) (c + changeOf h .column) 1 (omega arith) (omega arith) (omega arith),
+        at-place (131 + c + changeOf h .row * 130 + changeOf h .column - 131) (c + changeOf h .column) (changeOf h .row) (omega arith) (omega (arith, s)) (s .flat),
+        at-place (131 + c + changeOf h .row * 130 - 130) (c + 1) (changeOf h .row) (omega arith) (omega arith) (s .flat),
+        at-place (131 + c + changeOf h .column - 1) (c + changeOf h .column) 1 (omega arith) (omega (arith, s)) (omega arith),
       )
 
   -- a column, over any goal cells that a test tells; what is least starts at 0 in a goal cell, and at the mark in any other

@@ -1,10 +1,9 @@
 -- The table of the numbers of four cells: that a table is one, by one test that is computed over all its entries; and the bits of a byte by its
 -- four-bit parts.
--- Assumes nothing.
 use mathlib.Core.Path.{_≡_, ap, _∙_}
 use mathlib.Core.Bool.{Bool, true}
 use mathlib.Core.List.{List, []}
-use Prim.Native.Nat.{ℕ, _-_, _*_, _/_, _%_, _<_, _^_}
+use Prim.Native.Nat.{ℕ, zero, suc, _-_, _*_, _/_, _%_, _<_, _^_}
 use native.Mathlib.Omega.{arith}
 use lib.ListN.{getD, length}
 use lib.Dec.{eqb}
@@ -12,7 +11,6 @@ use borrow.Author.Tests.{eqb-true}
 use Rattle.floor.specs.Floor.{bit, both}
 use Rattle.floor.proofs.Entries.{every, entry}
 use Rattle.floor.proofs.Joined.{both-true}
-use Rattle.steps.proofs.Grid.{eight}
 use Rattle.offers.specs.Work.{unreached, at}
 use Rattle.loading.specs.Load.{Fours}
 
@@ -30,6 +28,18 @@ fours-of t n e = record {
       let (size, all) = both-true (eqb (length row) 4) (every (right q) row) (entry fourRight t [] e q (omega arith)) in
       eqb-true _ _ (entry (right q) row 0 all k (omega (arith, eqb-true (length row) 4 size)));
 }
+
+-- a fact of the eight bits of a byte is eight facts
+eight : (P : ℕ → Type 0) → P 0 → P 1 → P 2 → P 3 → P 4 → P 5 → P 6 → P 7 → (k : ℕ) → k < 8 → P k
+eight P p0 p1 p2 p3 p4 p5 p6 p7 zero b = p0
+eight P p0 p1 p2 p3 p4 p5 p6 p7 (suc zero) b = p1
+eight P p0 p1 p2 p3 p4 p5 p6 p7 (suc (suc zero)) b = p2
+eight P p0 p1 p2 p3 p4 p5 p6 p7 (suc (suc (suc zero))) b = p3
+eight P p0 p1 p2 p3 p4 p5 p6 p7 (suc (suc (suc (suc zero)))) b = p4
+eight P p0 p1 p2 p3 p4 p5 p6 p7 (suc (suc (suc (suc (suc zero))))) b = p5
+eight P p0 p1 p2 p3 p4 p5 p6 p7 (suc (suc (suc (suc (suc (suc zero)))))) b = p6
+eight P p0 p1 p2 p3 p4 p5 p6 p7 (suc (suc (suc (suc (suc (suc (suc zero))))))) b = p7
+eight P p0 p1 p2 p3 p4 p5 p6 p7 (suc (suc (suc (suc (suc (suc (suc (suc k)))))))) b = absurd (omega arith)
 
 -- a bit of a byte is one of four
 bit-of-four : (b : ℕ) → b < 256 → (k : ℕ) → k < 8 → bit (k % 4) (b / 2 ^ (k / 4 * 4) % 16) ≡ bit k b

@@ -1,5 +1,4 @@
 -- The map's bytes in the work array: each cell's place has the number of its bit, and all places between and around the rows stay blocked.
--- Assumes nothing.
 use mathlib.Core.Path.{_≡_, refl, ap₂, sym, subst, subst₂, _∙_}
 use mathlib.Core.Bool.{Bool, true, false, not}
 use mathlib.Core.List.{List}
@@ -15,7 +14,8 @@ use Rattle.steps.specs.Leading.{openPast}
 use Rattle.floor.specs.Inner.{Sound}
 use Rattle.offers.specs.Work.{unreached, stride, at, spot}
 use Rattle.loading.specs.Load.{numberOf, loaded, Run, Prefix, Cleared, Tall}
-use Rattle.offers.proofs.Changed.{each, waiting-set, waiting-none}
+use Rattle.offers.proofs.Changed.{waiting-set, waiting-none}
+use Rattle.entries.proofs.Lists.{each}
 use Rattle.loading.proofs.Kept.{CellsLoaded, BitsLoaded, RowsLoaded}
 
 -- the bit of the cell in column c and row r
@@ -86,9 +86,9 @@ module _ (m : Map) (s : Sound m) where
       record {
         tall = record { rows = omega (arith, i .tall, length-set x (spot c r) ((1 - bitAt m c r) * unreached)) };
         done =
-            each x (spot c r) _ in-x (λ z v. z < spot (c + 1) r → v ≡ loaded m z) (λ k. sym (loaded-cell c r p q))
+            each 0 x (spot c r) _ in-x (λ z v. z < spot (c + 1) r → v ≡ loaded m z) (λ k. sym (loaded-cell c r p q))
             (λ z e k. i .done z (omega arith));
-        rest = each x (spot c r) _ in-x (λ z v. spot (c + 1) r ≤ z → v ≡ 0) (λ k. absurd (omega arith)) (λ z e k. i .rest z (omega arith));
+        rest = each 0 x (spot c r) _ in-x (λ z v. spot (c + 1) r ≤ z → v ≡ 0) (λ k. absurd (omega arith)) (λ z e k. i .rest z (omega arith));
         few = omega (arith, i .few, waiting-set x (spot c r) ((1 - bitAt m c r) * unreached) in-x);
       }
 

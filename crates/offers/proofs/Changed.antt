@@ -1,24 +1,13 @@
--- A work array with one place changed: a fact of every place, how many cells wait, and the room in the queue.
--- Assumes nothing.
-use mathlib.Core.Path.{_≡_, refl, ap, sym, subst, _∙_}
-use mathlib.Core.Logic.{_≢_}
+-- A work array with one place changed: how many cells wait, and the room in the queue.
+use mathlib.Core.Path.{_≡_, refl, ap, _∙_}
 use mathlib.Core.List.{List, [], _∷_}
 use Prim.Native.Nat.{ℕ, zero, suc, _+_, _-_, _/_, min, _≤_, _<_}
 use native.Mathlib.Omega.{arith}
-use native.Mathlib.Decide.{decLe, ℕ-discrete}
+use native.Mathlib.Decide.{decLe}
 use lib.ListN.{length, set, length-set, List·getD-eq-default}
-use lib.Seq.{getD-set-same, getD-set-other, set-out}
+use lib.Seq.{set-out}
 use Rattle.offers.specs.Work.{unreached, at, waiting, Room}
 use Rattle.offers.specs.Taken.{Lowered, OfferMade}
-
--- a fact of every place, if it holds of the changed one and of the others as they were
-pub each :
-    (x : List ℕ) (a c : ℕ) → a < length x → (P : ℕ → ℕ → Type 0) → P a c → ((z : ℕ) → z ≢ a → P z (at x z)) → (z : ℕ) → P z (at (set x a c) z)
-each x a c h P here else z = by (ℕ-discrete z a)
-  where
-    by : Dec (z ≡ a) → P z (at (set x a c) z)
-    by (yes e) = subst (λ (i : ℕ). P i (at (set x a c) i)) (sym e) (subst (P a) (sym (getD-set-same x a c 0 h)) here)
-    by (no e) = subst (P z) (sym (getD-set-other x a z c 0 e)) (else z e)
 
 -- how many wait
 pub waiting-set : (x : List ℕ) (a c : ℕ) → a < length x → waiting (set x a c) + at x a / unreached ≡ waiting x + c / unreached

@@ -1,6 +1,6 @@
 pub mod Numbers
 pub mod Changed
-pub mod Turns
+pub mod InWork
 pub mod Kept
 pub mod OneOffer
 pub mod OneStep

@@ -1,5 +1,4 @@
 -- Steps out of one cell, one after another: north, and then in each turn the straight step after a diagonal one and the diagonal one.
--- Assumes nothing.
 use mathlib.Core.Path.{_≡_, refl, ap, sym, subst, _∙_}
 use mathlib.Core.Logic.{_⊎_, inl, inr, _≢_}
 use mathlib.Core.List.{List}
@@ -15,10 +14,10 @@ use Rattle.offers.proofs.Numbers.{like}
 use Rattle.offers.proofs.OneStep.{Fits, inside, one-step, straight-fits}
 use Rattle.offers.proofs.SideCells.{mask-read, diagonal-fits}
 
-falls-none : (w : Wave) (x q : List ℕ) → Falls w x q x q
+pub falls-none : (w : Wave) (x q : List ℕ) → Falls w x q x q
 falls-none w x q = record { low = λ z. omega arith; keep = λ z h. refl; high = λ z h. h; queue = λ i h. refl }
 
-falls-more : (w : Wave) (x q x′ q′ x″ q″ : List ℕ) → Falls w x q x′ q′ → Falls w x′ q′ x″ q″ → Falls w x q x″ q″
+pub falls-more : (w : Wave) (x q x′ q′ x″ q″ : List ℕ) → Falls w x q x′ q′ → Falls w x′ q′ x″ q″ → Falls w x q x″ q″
 falls-more w x q x′ q′ x″ q″ f k = record {
   low = λ z. omega (arith, f .low z, k .low z);
   keep = λ z h. k .keep z (omega (arith, f .keep z h)) ∙ f .keep z h;

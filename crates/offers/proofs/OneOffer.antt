@@ -1,5 +1,4 @@
 -- One offer to one cell keeps what the waves keep.
--- Assumes nothing.
 use mathlib.Core.Path.{_≡_, refl, ap, sym, subst, _∙_}
 use mathlib.Core.Logic.{_⊎_, inl, inr, _≢_}
 use mathlib.Core.List.{List}
@@ -12,7 +11,7 @@ use Rattle.offers.specs.Work.{unreached, span, atGoal, stepped, highest,
 use Rattle.offers.specs.Wave.{Wave, Support, Listed, Next, Going, Falls}
 use Rattle.offers.specs.Taken.{This}
 use Rattle.offers.proofs.Numbers.{stretch}
-use Rattle.offers.proofs.Changed.{each}
+use Rattle.entries.proofs.Lists.{each}
 
 -- what stands in the queue before its end
 front : (q : List ℕ) (t a i : ℕ) → i < t → getD (set q t a) i 0 ≡ getD q i 0
@@ -78,7 +77,7 @@ module _ (w : Wave) (x q : List ℕ) (t a : ℕ) (g : Going w x q t) where
     q′ = set q t a
 
     new : (P : ℕ → ℕ → Type 0) → P a cand → ((z : ℕ) → z ≢ a → P z (at x z)) → (z : ℕ) → P z (at x′ z)
-    new = each x a cand in-x
+    new = each 0 x a cand in-x
 
     -- cells below the limit stay
     stays : (z : ℕ) → at x z < w .limit → at x′ z ≡ at x z

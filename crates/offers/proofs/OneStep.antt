@@ -1,6 +1,5 @@
 -- One heading's step out of a cell, whatever the heading, keeps what the waves keep and offers its target what it should: the offer is made
 -- past the two cells beside it. Of a straight step these are its ends, so that it need not look at them.
--- Assumes nothing.
 use mathlib.Core.Path.{_≡_, ap, sym, subst}
 use mathlib.Core.List.{List}
 use Prim.Native.Nat.{ℕ, _+_, _-_, _/_, _%_, min, _≤_, _<_}
@@ -13,7 +12,7 @@ use Rattle.offers.specs.Wave.{Wave, Going}
 use Rattle.offers.specs.Taken.{OfferMade, Offered}
 use Rattle.offers.proofs.Kept.{Ready}
 use Rattle.offers.proofs.Numbers.{straight}
-use Rattle.offers.proofs.Turns.{Shape, level, upright, slanted, shape}
+use Rattle.steps.proofs.Headings.{Shape, level, upright, slanted, shape}
 use Rattle.offers.proofs.OneOffer.{idle, idle-falls, lowered, fresh, lower-falls}
 
 -- a cell that has a number is open

@@ -1,6 +1,5 @@
 -- The four cells beside a place, which a diagonal step goes past. Each is read once, before one of the two steps past it, and that is as good
 -- as just before each: blocked cells stay blocked and open ones open.
--- Assumes nothing.
 use mathlib.Core.Path.{_≡_, ap, sym, subst, _∙_}
 use mathlib.Core.Logic.{_⊎_, inl, inr}
 use mathlib.Core.List.{List}
@@ -10,7 +9,7 @@ use native.Mathlib.Decide.{ℕ-discrete}
 use Rattle.offers.specs.Work.{unreached, stride, stepped, at, target, beside, across}
 use Rattle.offers.specs.Wave.{Wave, Going}
 use Rattle.offers.specs.Taken.{Masks, MaskRead, Past}
-use Rattle.offers.proofs.Turns.{Flank, Corner, Shape, level, upright, slanted, shape}
+use Rattle.steps.proofs.Headings.{Flank, Corner, Shape, level, upright, slanted, shape}
 use Rattle.offers.proofs.OneStep.{open-floor, Fits}
 
 module _ (w : Wave) (x q : List ℕ) (t : ℕ) (g : Going w x q t) where

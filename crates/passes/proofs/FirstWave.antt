@@ -2,21 +2,16 @@
 use mathlib.Core.Path.{_≡_, refl, ap, sym, subst, _∙_}
 use mathlib.Core.Logic.{_⊎_, inl, inr}
 use mathlib.Core.List.{List}
-use Prim.Native.Nat.{ℕ, suc, _+_, _*_, _≤_, _<_}
+use Prim.Native.Nat.{ℕ, _+_, _*_, _≤_, _<_}
 use native.Mathlib.Omega.{arith}
 use native.Mathlib.Decide.{decLe, ℕ-discrete}
 use lib.ListN.{getD, length}
-use Rattle.offers.specs.Work.{unreached, span, atGoal, stepped, highest, at, Inside, WorkStep, Room}
+use Rattle.offers.specs.Work.{unreached, span, atGoal, stepped, at, WorkStep}
 use Rattle.offers.specs.Wave.{Wave, Listed, Going}
-use Rattle.offers.specs.Taken.{Offered, This, TakenLeft}
-use Rattle.passes.specs.Solved.{Loaded, Goals, goalWave, GoalsDone, AllGoalsDone}
+use Rattle.offers.specs.Taken.{This}
+use Rattle.passes.specs.Solved.{Loaded, Goals, goalWave, GoalsDone}
 use Rattle.passes.proofs.Kept.{the, Between}
 use Rattle.passes.proofs.Onward.{supported, next-due, onward}
-
--- when no goal's place is left
-pub goals-all :
-    (goals : List ℕ) (n : ℕ) (x q x′ q′ : List ℕ) (t : ℕ) → GoalsDone goals n x q x′ q′ t → length goals ≤ n → AllGoalsDone goals x q x′ q′ t
-goals-all goals n x q x′ q′ t d m = record { going = d .going; falls = d .falls; done = λ k h b u s. d .done k h b (omega arith) s }
 
 module _ (x q : List ℕ) (l : Loaded x q) where
   -- only the goal's places are reached
@@ -58,53 +53,13 @@ module _ (x q : List ℕ) (l : Loaded x q) where
       below z f (no e) = omega (arith, value z (omega arith) f)
 
   module _ (goals : List ℕ) (are : Goals x goals) where
-    pub goals-none : GoalsDone goals 0 x q x q 0
-    goals-none = record {
-      going = still;
-      falls = record { low = λ z. omega arith; keep = λ z m. refl; high = λ z m. m; queue = λ k m. refl };
-      done = λ k h b m s. absurd (omega arith);
-    }
+    -- each of them is a cell of that wave
+    pub in-wave : (i : ℕ) → i < length goals → This x (2 * span) (getD goals i 0)
+    in-wave i n =
+        let e = are .are i n in
+        record { free = omega arith; after = omega arith; near = omega arith }
 
-    module _ (i : ℕ) (x₁ q₁ : List ℕ) (t : ℕ) (d : GoalsDone goals i x q x₁ q₁ t) (n : i < length goals) where
-      abbrev c : ℕ
-      c = getD goals i 0
-
-      here : at x c ≡ atGoal
-      here = are .are i n
-
-      now-value : at x₁ c ≡ atGoal
-      now-value = d .going .start c here
-
-      pub goal-inside : Inside x₁ c
-      goal-inside = let a = l .border c (omega (arith, here)) in record { low = a .low; high = omega (arith, a .high, d .going .cells) }
-
-      pub goal-low : at x₁ c < highest
-      goal-low = omega (arith, now-value)
-
-      pub goals-more : (x₂ q₂ : List ℕ) (t₂ : ℕ) → TakenLeft c t x₁ q₁ x₂ q₂ t₂ → GoalsDone goals (i + 1) x q x₂ q₂ t₂
-      goals-more x₂ q₂ t₂ left = record {
-        going = o .going;
-        falls = record {
-          low = λ z. omega (arith, o .falls .low z, d .falls .low z);
-          keep = λ z m. o .falls .keep z (omega (arith, d .falls .keep z m)) ∙ d .falls .keep z m;
-          high = λ z m. o .falls .high z (d .falls .high z m);
-          queue = λ k m. absurd (omega arith);
-        };
-        done = λ k h b m s. by k h b m s (ℕ-discrete k i);
-      }
-        where
-          o : Offered (goalWave x) (λ h. h < 8) c x₁ q₁ x₂ q₂ t₂
-          o =
-              left .keeps (goalWave x) (d .going) (omega arith)
-              (record { free = omega (arith, now-value); after = omega (arith, now-value); near = omega (arith, now-value) })
-
-          by : (k h b : ℕ) → k < i + 1 → WorkStep x h (getD goals k 0) b → Dec (k ≡ i) → at x₂ b ≤ stepped h atGoal
-          by k h b m s (yes e) =
-              let v = ap (stepped h) now-value in
-              omega (arith, o .done h b (s .heading) (subst (λ (j : ℕ). WorkStep x h (getD goals j 0) b) e s))
-          by k h b m s (no e) = omega (arith, o .falls .low b, d .done k h b (omega arith) s)
-
-    module _ (x′ q′ : List ℕ) (t : ℕ) (o : AllGoalsDone goals x q x′ q′ t) where
+    module _ (x′ q′ : List ℕ) (t : ℕ) (o : GoalsDone goals x q x′ q′ t) where
       -- below that wave's end only the goal's places are reached
       first : (z : ℕ) → 0 < at x′ z → at x′ z < 2 * span → at x z ≡ atGoal
       first z p b = by (decLe (2 * span) (at x z))
@@ -127,8 +82,9 @@ module _ (x q : List ℕ) (l : Loaded x q) where
       relaxed h a b s k =
           let e = first a (o .going .free a (s .from)) k in
           let g = are .all a e in
-          let v = ap (stepped h) (o .going .start a e) in
-          omega (arith, o .done (g .index) h b (g .before) (subst (λ (z : ℕ). WorkStep x h z b) (sym (g .here)) s))
+          let v : at x (getD goals (g .index) 0) ≡ at x′ a = ap (at x) (g .here) ∙ e ∙ sym (o .going .start a e) in
+          let w = ap (stepped h) v in
+          omega (arith, o .done (g .index) h b (g .after) (g .before) (subst (λ (z : ℕ). WorkStep x h z b) (sym (g .here)) s))
 
       pub begin : Between x 0 0 t (3 * span) x′ q′
       begin = record {

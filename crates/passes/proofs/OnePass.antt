@@ -1,7 +1,6 @@
 -- One pass over the cells of a wave: once the fresh ones are parted, the ready ones, with those that waited in the wave before, take their steps
 -- one by one, and the others wait.
--- Assumes nothing.
-use mathlib.Core.Path.{_≡_, refl, ap, sym, subst, _∙_}
+use mathlib.Core.Path.{_≡_, ap, sym, subst, _∙_}
 use mathlib.Core.List.{List}
 use Prim.Native.Nat.{ℕ, _+_, _≤_, _<_}
 use native.Mathlib.Omega.{arith}
@@ -13,13 +12,13 @@ use Rattle.offers.specs.Taken.{Offered, This, TakenLeft}
 use Rattle.passes.specs.Pass.{Due, Places, Parted, StepsReady, StepsBegun, StepsDone, StepsLeft, PassReady, PassBegun, PassDone, PassLeft}
 use Rattle.offers.proofs.OneOffer.{same-behind}
 use Rattle.offers.proofs.OneStep.{open-floor}
+use Rattle.offers.proofs.ManySteps.{falls-none, falls-more}
 use Rattle.passes.proofs.Parting.{parted-before}
 
--- the cell at q[i] can be read and stepped out of
-pub record CanStep (x q : List ℕ) (i t : ℕ) : Type 0 where
-  pub index : i < length q
-  pub inside : Inside x (getD q i 0)
-  pub low : at x (getD q i 0) < highest
+-- the cell at c can be stepped out of
+pub record CanStep (x q : List ℕ) (c t : ℕ) : Type 0 where
+  pub inside : Inside x c
+  pub low : at x c < highest
   pub room : Room x q t
 
 -- an open cell is not on the border
@@ -28,63 +27,67 @@ inside w x q t g z o =
     let a = g .border z (open-floor g z o) in
     record { low = a .low; high = omega (arith, a .high, g .cells) }
 
-pub steps-none : (w : Wave) (mid top t : ℕ) (x q : List ℕ) → StepsReady w x q mid top t → StepsDone w mid mid x q x q t
-steps-none w mid top t x q r = record {
-  going = r .going;
-  falls = record { low = λ z. omega arith; keep = λ z m. refl; high = λ z m. m; queue = λ k m. refl };
-  done = λ k h b m n s. absurd (omega arith);
-}
+pub steps-none : (w : Wave) (list : List ℕ) (low : ℕ) (x q : List ℕ) (t : ℕ) → Going w x q t → StepsDone w list low low x q x q t
+steps-none w list low x q t g = record { going = g; falls = falls-none w x q; done = λ k h b m n s. absurd (omega arith) }
 
-module _ (w : Wave) (mid top t : ℕ) (x₀ q₀ : List ℕ) (r : StepsReady w x₀ q₀ mid top t) (i : ℕ) (x q : List ℕ) (t′ : ℕ)
-    (d : StepsDone w mid i x₀ q₀ x q t′) (m : mid ≤ i) (n : i < top) where
+-- the next cell of the list, which was one of the wave's when that began, still is, and takes its steps
+module _ (w : Wave) (list : List ℕ) (low i : ℕ) (x₀ q₀ x q : List ℕ) (t : ℕ) (d : StepsDone w list low i x₀ q₀ x q t)
+    (small : w .limit ≤ highest) (begins : This x₀ (w .limit) (getD list i 0)) where
   abbrev c : ℕ
-  c = getD q i 0
+  c = getD list i 0
 
-  same : c ≡ getD q₀ i 0
-  same = d .falls .queue i (omega (arith, r .order, r .begins))
-
-  -- the wave's cells are as they were when it began
   value : at x c ≡ at x₀ c
-  value = d .falls .keep c (subst (λ (z : ℕ). at x₀ z < w .limit) (sym same) (r .cells i m n .near))
+  value = d .falls .keep c (begins .near)
 
   this : This x (w .limit) c
-  this =
-      let o : This x₀ (w .limit) c = subst (This x₀ (w .limit)) (sym same) (r .cells i m n) in
-      record { free = omega (arith, value, o .free); after = omega (arith, value, o .after); near = omega (arith, value, o .near) }
-
-  pub step-safe : CanStep x q i t′
-  step-safe = record {
-    index = omega (arith, r .order, r .begins, d .going .order, d .going .room);
-    inside = inside w x q t′ (d .going) c (this .free);
-    low = omega (arith, this .near, r .small);
-    room = d .going .room;
+  this = record {
+    free = omega (arith, value, begins .free);
+    after = omega (arith, value, begins .after);
+    near = omega (arith, value, begins .near);
   }
 
-  pub steps-more : (x′ q′ : List ℕ) (t″ : ℕ) → TakenLeft (getD q i 0) t′ x q x′ q′ t″ → StepsDone w mid (i + 1) x₀ q₀ x′ q′ t″
-  steps-more x′ q′ t″ l = record {
+  pub can-step : CanStep x q c t
+  can-step = record { inside = inside w x q t (d .going) c (this .free); low = omega (arith, this .near, small); room = d .going .room }
+
+  pub one-more : (x′ q′ : List ℕ) (t′ : ℕ) → TakenLeft c t x q x′ q′ t′ → StepsDone w list low (i + 1) x₀ q₀ x′ q′ t′
+  one-more x′ q′ t′ l = record {
     going = k .going;
-    falls = record {
-      low = λ z. omega (arith, d .falls .low z, k .falls .low z);
-      keep = λ z u. k .falls .keep z (omega (arith, d .falls .keep z u)) ∙ d .falls .keep z u;
-      high = λ z u. k .falls .high z (d .falls .high z u);
-      queue = λ y u. k .falls .queue y u ∙ d .falls .queue y u;
-    };
+    falls = falls-more w x₀ q₀ x q x′ q′ (d .falls) (k .falls);
     done = λ y h b u v s. done y h b u v s (ℕ-discrete y i);
   }
     where
-      k : Offered w (λ h. h < 8) c x q x′ q′ t″
-      k = l .keeps w (d .going) (r .small) this
+      k : Offered w (λ h. h < 8) c x q x′ q′ t′
+      k = l .keeps w (d .going) small this
 
-      done : (y h b : ℕ) → mid ≤ y → y < i + 1 → WorkStep (w .floor) h (getD q₀ y 0) b → Dec (y ≡ i) → at x′ b ≤ stepped h (at x₀ (getD q₀ y 0))
+      done : (y h b : ℕ) → low ≤ y → y < i + 1 → WorkStep (w .floor) h (getD list y 0) b → Dec (y ≡ i)
+          → at x′ b ≤ stepped h (at x₀ (getD list y 0))
       done y h b u v s (no e) = omega (arith, d .done y h b u (omega arith) s, k .falls .low b)
       done y h b u v s (yes e) =
-          let g : getD q₀ y 0 ≡ c = ap (λ (z : ℕ). getD q₀ z 0) e ∙ sym same in
-          let a : stepped h (at x₀ (getD q₀ y 0)) ≡ stepped h (at x c) = ap (λ (z : ℕ). stepped h (at x₀ z)) g ∙ ap (stepped h) (sym value) in
+          let g : getD list y 0 ≡ c = ap (λ (z : ℕ). getD list z 0) e in
+          let a : stepped h (at x₀ (getD list y 0)) ≡ stepped h (at x c) = ap (λ (z : ℕ). stepped h (at x₀ z)) g ∙ ap (stepped h) (sym value) in
           omega (arith, k .done h b (s .heading) (subst (λ (z : ℕ). WorkStep (w .floor) h z b) g s))
 
 -- the last one did
-pub steps-all : (w : Wave) (mid top i : ℕ) (x q x′ q′ : List ℕ) (t′ : ℕ) → StepsDone w mid i x q x′ q′ t′ → top ≤ i → StepsDone w mid top x q x′ q′ t′
-steps-all w mid top i x q x′ q′ t′ d e = record { going = d .going; falls = d .falls; done = λ k h b m n s. d .done k h b m (omega arith) s }
+pub steps-all :
+    (w : Wave) (list : List ℕ) (low high i : ℕ) (x q x′ q′ : List ℕ) (t′ : ℕ) → StepsDone w list low i x q x′ q′ t′ → high ≤ i
+    → StepsDone w list low high x q x′ q′ t′
+steps-all w list low high i x q x′ q′ t′ d e = record { going = d .going; falls = d .falls; done = λ k h b m n s. d .done k h b m (omega arith) s }
+
+-- the ready cells stand in the queue, of which the steps change nothing before its end
+module _ (w : Wave) (mid top t : ℕ) (x₀ q₀ : List ℕ) (r : StepsReady w x₀ q₀ mid top t) (i : ℕ) (x q : List ℕ) (t′ : ℕ)
+    (d : StepsDone w q₀ mid i x₀ q₀ x q t′) (m : mid ≤ i) (n : i < top) where
+  same : getD q i 0 ≡ getD q₀ i 0
+  same = d .falls .queue i (omega (arith, r .order, r .begins))
+
+  pub in-queue : i < length q
+  in-queue = omega (arith, r .order, r .begins, d .going .order, d .going .room)
+
+  pub step-safe : CanStep x q (getD q i 0) t′
+  step-safe = subst (λ (z : ℕ). CanStep x q z t′) (sym same) (can-step w q₀ mid i x₀ q₀ x q t′ d (r .small) (r .cells i m n))
+
+  pub steps-more : (x′ q′ : List ℕ) (t″ : ℕ) → TakenLeft (getD q i 0) t′ x q x′ q′ t″ → StepsDone w q₀ mid (i + 1) x₀ q₀ x′ q′ t″
+  steps-more x′ q′ t″ l =
+      one-more w q₀ mid i x₀ q₀ x q t′ d (r .small) (r .cells i m n) x′ q′ t″ (subst (λ (z : ℕ). TakenLeft z t′ x q x′ q′ t″) same l)
 
 module _ (w : Wave) (x q : List ℕ) (mid fresh t : ℕ) (r : PassReady w x q mid fresh t) where
   pub places : Places x q fresh t
@@ -114,7 +117,7 @@ module _ (w : Wave) (x q : List ℕ) (mid fresh t : ℕ) (r : PassReady w x q mi
           record { free = d .reached .free; after = d .after; near = p .front k m n };
     }
 
-    module _ (x′ q″ : List ℕ) (t′ : ℕ) (d : StepsDone w mid top x q′ x′ q″ t′) where
+    module _ (x′ q″ : List ℕ) (t′ : ℕ) (d : StepsDone w q′ mid top x q′ x′ q″ t′) where
       -- a cell below the wave's end stands before top, and any other behind it
       ready : (z : ℕ) → Listed q′ mid t z → at x z < w .limit → Listed q′ mid top z
       ready z l m = by (decLe top (l .index))

@@ -1,6 +1,5 @@
 -- Cells are parted one by one: the first stands where it belongs; the next one is swapped to where the ready ones end, and is one of them if it is
 -- below the limit. What stood there waits, and still stands behind the ready ones.
--- Assumes nothing.
 use mathlib.Core.Path.{_≡_, refl, ap, sym, subst, _∙_}
 use mathlib.Core.Logic.{_≢_}
 use mathlib.Core.List.{List}
@@ -11,7 +10,7 @@ use lib.ListN.{getD, length, set, length-set}
 use lib.Seq.{getD-set-same}
 use Rattle.offers.specs.Work.{largest, at}
 use Rattle.offers.specs.Wave.{Listed}
-use Rattle.offers.proofs.Changed.{each}
+use Rattle.entries.proofs.Lists.{each}
 use Rattle.passes.specs.Pass.{Below, Place, Places, Parted}
 use Rattle.passes.proofs.Kept.{wider}
 
@@ -31,7 +30,7 @@ module _ (q : List ℕ) (i top : ℕ) (in-i : i < length q) (in-top : top < leng
       (P : ℕ → ℕ → Type 0) → P top (getD q i 0) → (i ≢ top → P i (getD q top 0)) → ((k : ℕ) → k ≢ top → k ≢ i → P k (getD q k 0))
       → (k : ℕ) → P k (getD (swap q i top) k 0)
   each-swapped P first second other =
-      each p top (getD q i 0) in-p P first (each q i (getD q top 0) in-i (λ k v. k ≢ top → P k v) second (λ k e n. other k n e))
+      each 0 p top (getD q i 0) in-p P first (each 0 q i (getD q top 0) in-i (λ k v. k ≢ top → P k v) second (λ k e n. other k n e))
 
   at-top : getD (swap q i top) top 0 ≡ getD q i 0
   at-top = getD-set-same p top (getD q i 0) 0 in-p

@@ -1,7 +1,6 @@
 -- No wave is empty: if cells are left, one of them lies below the wave's end. For take any that does not. It was reached by a step out of a
 -- settled cell, and not by a straight one, which is not long enough. So it was by a diagonal one, and the cell beside, which is one straight step
 -- from both, lies below the wave's end. Had it taken its steps, it would have offered less.
--- Assumes nothing.
 use mathlib.Core.Path.{_≡_, ap}
 use mathlib.Core.Logic.{_⊎_, inl, inr}
 use mathlib.Core.List.{List}
@@ -12,7 +11,8 @@ use lib.ListN.{getD}
 use Rattle.offers.specs.Work.{stride, span, atGoal, highest, at, across, WorkStep}
 use Rattle.offers.specs.Wave.{Support}
 use Rattle.offers.proofs.Numbers.{straight}
-use Rattle.offers.proofs.Turns.{also, Corner, Shape, level, upright, slanted, shape}
+use Rattle.steps.proofs.Headings.{Corner, Shape, level, upright, slanted, shape}
+use Rattle.offers.proofs.InWork.{also}
 use Rattle.passes.proofs.Kept.{the, Between}
 
 module _ (floor : List ℕ) (h a b : ℕ) (s : WorkStep floor h a b) (low : stride + 1 ≤ a) (k : Corner h) where

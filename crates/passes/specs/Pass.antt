@@ -1,7 +1,6 @@
 -- One pass: the cells q[mid..t] that were reached and have not taken their steps when a wave begins. Those below the wave's end are ready: they
 -- take their steps, and the others wait. The first ones, q[mid..fresh], waited in the wave before, and are all ready; of the fresh ones,
 -- q[fresh..t], the ready ones are brought before the others.
--- Assumes nothing.
 use mathlib.Core.Path.{_≡_}
 use mathlib.Core.List.{List}
 use Prim.Native.Nat.{ℕ, _+_, _≤_, _<_}
@@ -52,15 +51,15 @@ pub record StepsBegun (x q : List ℕ) (mid top t : ℕ) : Type 0 where
   pub wave : Wave
   pub ready : StepsReady wave x q mid top t
 
--- the cells q[mid..i] have taken their steps
-pub record StepsDone (w : Wave) (mid i : ℕ) (x q x′ q′ : List ℕ) (t′ : ℕ) : Type 0 where
+-- the cells that stand at low and after it in a list, before high, have taken their steps
+pub record StepsDone (w : Wave) (list : List ℕ) (low high : ℕ) (x q x′ q′ : List ℕ) (t′ : ℕ) : Type 0 where
   pub going : Going w x′ q′ t′
   pub falls : Falls w x q x′ q′
-  pub done : (k h b : ℕ) → mid ≤ k → k < i → WorkStep (w .floor) h (getD q k 0) b → at x′ b ≤ stepped h (at x (getD q k 0))
+  pub done : (k h b : ℕ) → low ≤ k → k < high → WorkStep (w .floor) h (getD list k 0) b → at x′ b ≤ stepped h (at x (getD list k 0))
 
 -- all of q[mid..top] have, in every wave whose cells they are
 abbrev pub StepsLeft : (mid top t : ℕ) (x q x′ q′ : List ℕ) (t′ : ℕ) → Type 0
-StepsLeft mid top t x q x′ q′ t′ = (w : Wave) → StepsReady w x q mid top t → StepsDone w mid top x q x′ q′ t′
+StepsLeft mid top t x q x′ q′ t′ = (w : Wave) → StepsReady w x q mid top t → StepsDone w q mid top x q x′ q′ t′
 
 -- the cell at p is one of the wave that ends at limit, or of a later one
 pub record Due (x : List ℕ) (limit p : ℕ) : Type 0 where

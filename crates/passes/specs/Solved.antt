@@ -5,7 +5,8 @@ use mathlib.Core.List.{List}
 use Prim.Native.Nat.{ℕ, _*_, _≤_, _<_}
 use lib.ListN.{getD, length}
 use Rattle.offers.specs.Work.{unreached, largest, span, atGoal, stepped, highest, at, Inside, WorkStep, waiting}
-use Rattle.offers.specs.Wave.{Wave, Listed, Going, Falls}
+use Rattle.offers.specs.Wave.{Wave, Listed}
+use Rattle.passes.specs.Pass.{StepsDone}
 
 -- a floor in the work array, with nothing reached but the goal's cells, and a queue that has room for all other cells, and a place more
 pub record Loaded (x q : List ℕ) : Type 0 where
@@ -44,12 +45,6 @@ pub record Goals (x goals : List ℕ) : Type 0 where
 abbrev pub goalWave : List ℕ → Wave
 goalWave x = record { floor = x; before = x; end = 0; limit = 2 * span }
 
--- the first n of the goal's places have taken their steps
-pub record GoalsDone (goals : List ℕ) (n : ℕ) (x q x′ q′ : List ℕ) (t : ℕ) : Type 0 where
-  pub going : Going (goalWave x) x′ q′ t
-  pub falls : Falls (goalWave x) x q x′ q′
-  pub done : (k h b : ℕ) → k < n → WorkStep x h (getD goals k 0) b → at x′ b ≤ stepped h atGoal
-
--- all of them have
-abbrev pub AllGoalsDone : (goals x q x′ q′ : List ℕ) (t : ℕ) → Type 0
-AllGoalsDone goals = GoalsDone goals (length goals)
+-- all of the goal's places have taken their steps
+abbrev pub GoalsDone : (goals x q x′ q′ : List ℕ) (t : ℕ) → Type 0
+GoalsDone goals x = StepsDone (goalWave x) goals 0 (length goals) x

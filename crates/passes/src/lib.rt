@@ -3,7 +3,7 @@
 // The goal's places take their steps first and are never queued, so that the queue has at most one cell fewer than the floor.
 ghost use Rattle.offers.specs.Work.{at};
 ghost use Rattle.passes.specs.Pass.{Below, Place, Places, Parted, StepsBegun, StepsLeft, PassBegun, PassLeft};
-ghost use Rattle.passes.specs.Solved.{Loaded, Goals, AllGoalsDone, Solved};
+ghost use Rattle.passes.specs.Solved.{Loaded, Goals, GoalsDone, Solved};
 
 // The part of the queue that the next wave has before it.
 pub struct Part {
@@ -83,7 +83,7 @@ fn one_wave(
 fn goal_steps(work: &mut [u32], queue: &mut [u32], goals: &[u32]) -> usize
     requires { ⌜ Loaded (now work) (now queue) ⌝ }
     requires { ⌜ Goals (now work) (now goals) ⌝ }
-    ensures { λ r. ⌜ AllGoalsDone (now (goals .entry)) (now (work .entry)) (now (queue .entry)) (now (work .exit)) (now (queue .exit)) r ⌝ }
+    ensures { λ r. ⌜ GoalsDone (now (goals .entry)) (now (work .entry)) (now (queue .entry)) (now (work .exit)) (now (queue .exit)) r ⌝ }
 {
     let mut end: usize = 0;
     let mut i: usize = 0;

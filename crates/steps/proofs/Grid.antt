@@ -1,13 +1,13 @@
 -- The floor's steps, one statement for all headings: the two ends, and the two cells that share a side with both, are open.
--- Assumes nothing.
-use mathlib.Core.Path.{_≡_, refl, ap, ap₂, sym, _∙_}
-use Prim.Native.Nat.{ℕ, zero, suc, _+_, _*_, _%_, _/_, _<_}
+use mathlib.Core.Path.{_≡_, ap, ap₂, sym, _∙_}
+use Prim.Native.Nat.{ℕ, _+_, _*_, _%_, _/_, _<_}
 use native.Mathlib.Omega.{arith}
 use native.Mathlib.Nat.{div-add-mod', mod-eq-of-lt, div-eq-of-lt, mul-le-mul-right, add-zero, mul-add-mod-self-right, mul-add-div-right}
-use Rattle.steps.specs.Heading.{changes, changeOf, byParity}
+use Rattle.steps.specs.Heading.{changeOf, byParity, weight}
 use Rattle.steps.specs.Way.{Graph}
 use Rattle.steps.specs.Step.{Moved, gridSteps}
 use Rattle.steps.proofs.Ways.{Back}
+use Rattle.steps.proofs.Headings.{opposite, changes-of}
 
 -- a floor: its width, and which cells are open; those lie on it
 pub record Floor : Type 1 where
@@ -41,47 +41,26 @@ inside f h x y s =
     let r = f .row _ _ (s .from) in
     omega (arith, mul-le-mul-right (f .width) r, div-add-mod' x (f .width))
 
--- walked back by the heading four further
-abbrev opposite : ℕ → ℕ
-opposite h = (h + 4) % 8
-
--- a fact of the eight headings is eight facts
-pub eight : (P : ℕ → Type 0) → P 0 → P 1 → P 2 → P 3 → P 4 → P 5 → P 6 → P 7 → (h : ℕ) → h < 8 → P h
-eight P p0 p1 p2 p3 p4 p5 p6 p7 zero b = p0
-eight P p0 p1 p2 p3 p4 p5 p6 p7 (suc zero) b = p1
-eight P p0 p1 p2 p3 p4 p5 p6 p7 (suc (suc zero)) b = p2
-eight P p0 p1 p2 p3 p4 p5 p6 p7 (suc (suc (suc zero))) b = p3
-eight P p0 p1 p2 p3 p4 p5 p6 p7 (suc (suc (suc (suc zero)))) b = p4
-eight P p0 p1 p2 p3 p4 p5 p6 p7 (suc (suc (suc (suc (suc zero))))) b = p5
-eight P p0 p1 p2 p3 p4 p5 p6 p7 (suc (suc (suc (suc (suc (suc zero)))))) b = p6
-eight P p0 p1 p2 p3 p4 p5 p6 p7 (suc (suc (suc (suc (suc (suc (suc zero))))))) b = p7
-eight P p0 p1 p2 p3 p4 p5 p6 p7 (suc (suc (suc (suc (suc (suc (suc (suc h)))))))) b = absurd (omega arith)
-
-columns-back : (h : ℕ) → h < 8 → changeOf h .column + changeOf (opposite h) .column ≡ 2
-unfolding changeOf changes
-columns-back = eight (λ h. changeOf h .column + changeOf (opposite h) .column ≡ 2) refl refl refl refl refl refl refl refl
-
-rows-back : (h : ℕ) → h < 8 → changeOf h .row + changeOf (opposite h) .row ≡ 2
-unfolding changeOf changes
-rows-back = eight (λ h. changeOf h .row + changeOf (opposite h) .row ≡ 2) refl refl refl refl refl refl refl refl
-
 moved-back : {a b : ℕ} (k j : ℕ) → k + j ≡ 2 → Moved k a b → Moved j b a
 moved-back k j e m = omega arith
 
-pub back : (f : Floor) → Back (graph f)
-back f = record {
-  turn = opposite;
-  back = λ h x y s. record {
-    heading = omega arith;
-    column = moved-back (changeOf h .column) (changeOf (opposite h) .column) (columns-back h (s .heading)) (s .column);
-    row = moved-back (changeOf h .row) (changeOf (opposite h) .row) (rows-back h (s .heading)) (s .row);
-    from = s .to;
-    to = s .from;
-    side = s .other;
-    other = s .side;
-  };
-  same = λ h. let e : opposite h % 2 ≡ h % 2 = omega arith in ap byParity e;
+-- a step is walked back by the opposite heading, which weighs the same
+pub step-back : (f : Floor) (h x y : ℕ) → (graph f) .Step h x y → (graph f) .Step (opposite h) y x
+step-back f h x y s = record {
+  heading = omega arith;
+  column = moved-back (changeOf h .column) (changeOf (opposite h) .column) (changes-of h (s .heading) .columns) (s .column);
+  row = moved-back (changeOf h .row) (changeOf (opposite h) .row) (changes-of h (s .heading) .rows) (s .row);
+  from = s .to;
+  to = s .from;
+  side = s .other;
+  other = s .side;
 }
+
+pub same-weight : (h : ℕ) → weight (opposite h) ≡ weight h
+same-weight h = let e : opposite h % 2 ≡ h % 2 = omega arith in ap byParity e
+
+pub back : (f : Floor) → Back (graph f)
+back f = record { reversed = opposite; back = step-back f; same = same-weight }
 
 -- a heading leads to one cell
 pub one-way : (f : Floor) (h x y z : ℕ) → (graph f) .Step h x y → (graph f) .Step h x z → y ≡ z

@@ -1,5 +1,4 @@
 -- Ways in general, over any set of permitted steps: joined, walked back, and what is left of a shortest way.
--- Assumes nothing.
 use mathlib.Core.Path.{_≡_, ap, subst}
 use Prim.Native.Nat.{ℕ}
 use native.Mathlib.Omega.{arith}
@@ -10,9 +9,9 @@ use Rattle.steps.specs.Way.{Graph, Way, stay, step, Reach, Shortest, Onl
 
 -- steps can be walked back, at the same length
 pub record Back (G : Graph) : Type 0 where
-  pub turn : ℕ → ℕ
-  pub back : (h x y : ℕ) → G .Step h x y → G .Step (turn h) y x
-  pub same : (h : ℕ) → G .weight (turn h) ≡ G .weight h
+  pub reversed : ℕ → ℕ
+  pub back : (h x y : ℕ) → G .Step h x y → G .Step (reversed h) y x
+  pub same : (h : ℕ) → G .weight (reversed h) ≡ G .weight h
 
 pub append : {G : Graph} {x y z : ℕ} {l m : Length} → Way G x y l → Way G y z m → Way G x z (l ⊕ m)
 append {G} {x} {z = z} stay v = subst (Way G x z) (length-ext (omega arith) (omega arith)) v

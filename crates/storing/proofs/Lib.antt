@@ -1,3 +1,2 @@
-pub mod Kept
 pub mod NumberKinds
-pub mod EntriesStored
+pub mod EntryParts

@@ -1,5 +1,4 @@
 -- What a number can be, and the entry that it then stands for.
--- Assumes nothing.
 use mathlib.Core.Path.{_≡_, refl, ap, ap₂}
 use Prim.Native.Nat.{ℕ, suc, _-_, _≤_, _<_}
 use native.Mathlib.Omega.{arith}
@@ -7,7 +6,7 @@ use native.Mathlib.Decide.{decLe, ℕ-discrete}
 use Rattle.lengths.proofs.Keys.{pair}
 use Rattle.entries.specs.Entry.{mark, long}
 use Rattle.offers.specs.Work.{unreached}
-use Rattle.storing.specs.Store.{keyOf, goalKey, entryBy, entryOf}
+use Rattle.storing.specs.Entries.{keyOf, goalKey, entryBy, entryOf}
 
 -- what a number can be
 pub data Kind (v : ℕ) : Type 0 where

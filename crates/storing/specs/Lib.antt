@@ -1,1 +1,1 @@
-pub mod Store
+pub mod Entries

@@ -1,17 +1,16 @@
 // The work array's numbers into the table.
 ghost use mathlib.Core.Path.{_≡_};
-ghost use Prim.Native.Nat.{_+_, _*_, _/_, _<_};
+ghost use Prim.Native.Nat.{_*_, _/_, _<_};
 ghost use lib.ListN.{length};
 ghost use Rattle.lengths.proofs.Keys.{straightKey};
 ghost use Rattle.entries.specs.Entry.{pack};
-ghost use Rattle.storing.specs.Store.{entryOf, Readable, Storable, Stored};
+ghost use Rattle.entries.specs.Written.{Written};
+ghost use Rattle.storing.specs.Entries.{entryOf, Settled, AllSettled, entryIn, entryOfCell};
+use entries::MARK;
 use offers::GOAL;
 use offers::STRAIGHT;
 use offers::STRIDE;
 use offers::UNREACHED;
-
-// The mark: a blocked cell, or an open one without a way to the goal.
-const MARK: u32 = 4294967295;
 
 // What a straight and a diagonal step weigh in a key. So 13860 diagonal steps weigh what 19601 straight ones do.
 const STRAIGHT_KEY: u32 = 13860;
@@ -35,7 +34,7 @@ fn whole_of(number: u32) -> u32
 // straight ones. How often 13860 goes into them is found nearly by a product, and then by one comparison, without a division, so that many
 // entries are made at once.
 fn entry_of(number: u32) -> u32
-    requires { ⌜ Readable number ⌝ }
+    requires { ⌜ Settled number ⌝ }
     ensures { λ r. ⌜ r ≡ pack (entryOf number) ⌝ }
 {
     if number == 0 {
@@ -56,10 +55,10 @@ fn entry_of(number: u32) -> u32
 
 // The entries of one row.
 fn store_row(work: &[u32], width: usize, height: usize, table: &mut [u32], row: usize)
-    requires { ⌜ Storable width height (now work) ⌝ }
+    requires { ⌜ AllSettled width height (now work) ⌝ }
     requires { ⌜ row < height ⌝ }
-    requires { ⌜ Stored width height (now work) (row * width) (now table) ⌝ }
-    ensures { λ r. ⌜ Stored width height (now (work .entry)) ((row + 1) * width) (now (table .exit)) ⌝ }
+    requires { ⌜ length (now table) ≡ height * width ⌝ }
+    ensures { λ r. ⌜ Written (entryIn (now (work .entry)) row) (row * width) width (now (table .entry)) (now (table .exit)) ⌝ }
 {
     let mut column: usize = 0;
     while column < width {
@@ -70,9 +69,9 @@ fn store_row(work: &[u32], width: usize, height: usize, table: &mut [u32], row: 
 
 // The table of a work array that the waves have left.
 pub fn store_table(work: &[u32], width: usize, height: usize, table: &mut [u32])
-    requires { ⌜ Storable width height (now work) ⌝ }
+    requires { ⌜ AllSettled width height (now work) ⌝ }
     requires { ⌜ length (now table) ≡ height * width ⌝ }
-    ensures { λ r. ⌜ Stored width height (now (work .entry)) (height * width) (now (table .exit)) ⌝ }
+    ensures { λ r. ⌜ Written (entryOfCell width (now (work .entry))) 0 (height * width) (now (table .entry)) (now (table .exit)) ⌝ }
 {
     let mut row: usize = 0;
     while row < height {

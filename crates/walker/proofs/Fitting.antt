@@ -1,11 +1,10 @@
 -- With a filled table a step fits the numbers exactly if it lies on a shortest way, so the reader's run is the greedy walk. A number is its entry packed, straight × 65,536 + diagonal,
 -- with parts below 16,384; so the number here is the number there with the step added exactly if the entries differ by the step.
--- Assumes nothing.
 use mathlib.Core.Path.{_≡_, refl, ap, sym, subst, _∙_}
 use mathlib.Core.Logic.{_⊎_, inl, inr}
 use mathlib.Core.Bool.{Bool, true, false}
-use mathlib.Core.List.{List, [], _∷_}
-use Prim.Native.Nat.{ℕ, zero, suc, _+_, _%_, _<_}
+use mathlib.Core.List.{List, _∷_}
+use Prim.Native.Nat.{ℕ, _+_, _%_, _<_}
 use native.Mathlib.Omega.{arith}
 use lib.ListN.{getD, length}
 use Rattle.lengths.specs.declared.Length.{Length}
@@ -20,15 +19,11 @@ use Rattle.steps.specs.Way.{Graph, Way, stay, step, Shortest}
 use Rattle.steps.proofs.Ways.{tail-shortest}
 use Rattle.entries.specs.Entry.{long, pack, partsOf, malformed, read, entryAt}
 use Rattle.entries.specs.Filled.{Says}
+use Rattle.entries.proofs.Lists.{getD-any}
 use Rattle.entries.proofs.Packing.{read-small, said-small, formed, pack-read}
 use Rattle.walker.specs.Reading.{Order, Run, done, more, cost, fits}
 use Rattle.walker.proofs.Greedy.{OnShort, Follows, arrived, take, on-entries, entries-on}
 use Rattle.walker.proofs.Searching.{Next, stop, goes, next-is, cost-pos, fits-yes, yes-fits}
-
-pub getD-any : (t : List ℕ) (i a b : ℕ) → i < length t → getD t i a ≡ getD t i b
-getD-any [] i a b h = absurd (omega arith)
-getD-any (x ∷ t) zero a b h = refl
-getD-any (x ∷ t) (suc i) a b h = getD-any t i a b (omega arith)
 
 -- a number and the one a step further, as lengths
 numbers : (h v u : ℕ) → Within (partsOf v) → malformed u ≡ false → v ≡ u + cost h → (b : Length) × (read u ≡ long b) × (read v ≡ long (b ⊕ weight h))

@@ -1,12 +1,10 @@
 -- The reader on a floor: its run is a walk by permitted steps, with a filled table the first route, and the mark says that there is no way.
--- Assumes nothing.
 use mathlib.Core.Path.{_≡_, refl, ap, sym, subst, _∙_}
 use mathlib.Core.Logic.{_≢_, _⊎_, inl, inr}
 use mathlib.Core.Bool.{false}
 use mathlib.Core.List.{List}
 use Prim.Native.Nat.{ℕ, _+_, _%_, _/_, _≤_, _<_}
 use native.Mathlib.Omega.{arith}
-use native.Mathlib.Nat.{mul-le-mul}
 use native.Mathlib.Decide.{ℕ-discrete}
 use lib.ListN.{getD}
 use Rattle.lengths.specs.declared.Length.{Length}
@@ -17,10 +15,12 @@ use Rattle.floor.specs.Inner.{Sound}
 use Rattle.steps.specs.Leading.{leadOf}
 use Rattle.steps.specs.Step.{stepsOf}
 use Rattle.steps.specs.Way.{Way, stay, step, Reach, Shortest, Only}
-use Rattle.steps.proofs.Grid.{inside, back, one-way}
+use Rattle.steps.proofs.Grid.{inside, step-back, one-way}
+use Rattle.steps.proofs.OnMap.{few-cells}
 use Rattle.steps.proofs.Leads.{floor, to-step, from-step}
 use Rattle.entries.specs.Entry.{Entry, mark, long, pack, partsOf, malformed, read, entryAt}
 use Rattle.entries.specs.Filled.{Says, Filled}
+use Rattle.entries.proofs.Lists.{getD-any}
 use Rattle.entries.proofs.Packing.{read-mark, formed, pack-read}
 use Rattle.entries.proofs.Judging.{filled-says, filled-right}
 use Rattle.walker.specs.Route as walk
@@ -28,12 +28,12 @@ use Rattle.walker.specs.Route.{FirstRoute, Walk}
 use Rattle.walker.specs.Legs.{again}
 use Rattle.walker.specs.Reading.{Order, Run, done, more, Readable}
 use Rattle.walker.proofs.First.{first-unique, follows-first}
-use Rattle.walker.proofs.Fitting.{getD-any, run-follows}
+use Rattle.walker.proofs.Fitting.{run-follows}
 use Rattle.walker.proofs.ShortRuns.{run-short}
 
 -- both ends of a step lie on the floor
 on-floor : (m : Map) (h x y : ℕ) → (stepsOf m) .Step h x y → (x < cells m) × (y < cells m)
-on-floor m h x y s = (inside (floor m) h x y s, inside (floor m) _ y x ((back (floor m)) .back h x y s))
+on-floor m h x y s = (inside (floor m) h x y s, inside (floor m) _ y x (step-back (floor m) h x y s))
 
 pub lands : (m : Map) (h x y : ℕ) → h < 8 → leadOf m h x ≡ To y → y < cells m
 lands m h x y b p = on-floor m h x y (to-step m h x y b p) .1
@@ -69,14 +69,11 @@ module _ (m : Map) (c : Sound m) (goal : ℕ) (on : goal < cells m) (t : List �
   goal-inside : (x : ℕ) → Only goal x → x < cells m
   goal-inside x e = omega arith
 
-  few-cells : cells m ≤ 16384
-  few-cells = omega (arith, mul-le-mul (c .high) (c .wide))
-
   right : (x : ℕ) → Says (stepsOf m) (Only goal) x (entryAt t x)
-  right = filled-says (stepsOf m) (Only goal) goal? (cells m) few-cells (inside (floor m)) goal-inside t (f .size) f
+  right = filled-says (stepsOf m) (Only goal) goal? (cells m) (few-cells m c) (inside (floor m)) goal-inside t (f .size) f
 
   well : (x : ℕ) → x < cells m → malformed (getD t x 4294967295) ≡ false
-  well x b = filled-right (stepsOf m) (Only goal) goal? (cells m) few-cells (inside (floor m)) goal-inside t (f .size) f x b .formed
+  well x b = filled-right (stepsOf m) (Only goal) goal? (cells m) (few-cells m c) (inside (floor m)) goal-inside t (f .size) f x b .formed
 
   -- a cell's number, as the code reads it, is its entry packed
   number-is : (x : ℕ) → x < cells m → getD t x 0 ≡ pack (entryAt t x)

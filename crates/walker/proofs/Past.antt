@@ -1,7 +1,6 @@
--- A step as the code reads it: where a heading leads is one number off, and for a straight step that the numbers fit nothing but the ends of the row is left to test.
--- Assumes nothing.
+-- A step as the code reads it: where a heading leads is one number off, and for a straight step that the numbers fit nothing but the ends
+-- of the row is left to test.
 use mathlib.Core.Path.{_≡_, refl, ap, sym, subst, _∙_}
-use mathlib.Core.Logic.{_⊎_, inl, inr}
 use mathlib.Core.Bool.{Bool, true, false, false≢true}
 use mathlib.Core.List.{List}
 use Prim.Native.Nat.{ℕ, zero, suc, _+_, _-_, _*_, _%_, _/_, _≤_, _<_}
@@ -10,31 +9,18 @@ use native.Mathlib.Nat.{add-mul, div-add-mod'}
 use borrow.Author.Tests.{eqb-true, eqb-false, leb-true, leb-false}
 use lib.Dec.{eqb, leb}
 use lib.ListN.{getD, length}
-use Rattle.steps.specs.declared.Change.{Change}
 use Rattle.steps.specs.declared.Lead.the-variants.{To}
 use Rattle.floor.specs.Floor.{Map, Open, cells}
 use Rattle.floor.specs.Inner.{Sound}
-use Rattle.steps.specs.Heading.{changes, changeOf}
+use Rattle.steps.specs.Heading.{changeOf}
 use Rattle.steps.specs.Leading.{leadOf}
 use Rattle.steps.specs.Step.{stepsOf}
-use Rattle.steps.proofs.Grid.{cell, cell-column, cell-row, eight}
-use Rattle.steps.proofs.Headings.{change-small}
+use Rattle.steps.proofs.Grid.{cell, cell-column, cell-row}
+use Rattle.steps.proofs.Headings.{Shape, level, upright, slanted, shape}
 use Rattle.steps.proofs.Leads.{floor, open-column, to-step, from-step}
 use Rattle.walker.specs.Reading.{Differ, InWidth, Readable, cost, fits, past}
 use Rattle.walker.proofs.OnFloor.{lands}
 use Rattle.walker.proofs.Searching.{cost-straight, fits-yes, yes-fits}
-
--- a change that was read off the table
-pub record ReadOf (change : Change) (h : ℕ) : Type 0 where
-  pub narrow : change .column ≤ 2
-  pub flat : change .row ≤ 2
-  pub columns : change .column ≡ changeOf h .column
-  pub rows : change .row ≡ changeOf h .row
-
-pub read-of : (change : Change) (h : ℕ) → h < 8 → change ≡ changeOf h → ReadOf change h
-read-of change h b e =
-    let (column, row) = change-small h b in
-    subst (λ (z : Change). ReadOf z h) (sym e) (record { narrow = column; flat = row; columns = refl; rows = refl })
 
 -- numbers compared, where the difference was taken modulo 2⁶⁴: off the table, or on it
 module _ (width : ℕ) (t : List ℕ) (x h p to : ℕ) (is : p ≡ past width x h) (small : p ≤ 16642) (wide : width ≤ 128) (few : length t ≤ 16384)
@@ -57,12 +43,6 @@ module _ (width x h k : ℕ) (is : k ≡ x % width + changeOf h .column) where
 
   pub row-end : 1 ≤ k → InWidth width x h (leb k width)
   row-end i = record { on = λ e. (omega arith, omega (arith, leb-true k width e)); off = λ e low high. omega (arith, leb-false k width e) }
-
--- a straight heading changes the column or the row, not both
-one-change : (h : ℕ) → h < 8 → h % 2 ≡ 0 → (changeOf h .column ≡ 1) ⊎ (changeOf h .row ≡ 1)
-unfolding changeOf changes
-one-change = eight (λ h. h % 2 ≡ 0 → (changeOf h .column ≡ 1) ⊎ (changeOf h .row ≡ 1))
-    (λ e. inl refl) (λ e. absurd (omega arith)) (λ e. inr refl) (λ e. absurd (omega arith)) (λ e. inl refl) (λ e. absurd (omega arith)) (λ e. inr refl) (λ e. absurd (omega arith))
 
 module _ (m : Map) (h x : ℕ) (b : h < 8) where
   -- where a heading leads, as the code counts it
@@ -99,11 +79,12 @@ module _ (m : Map) (h x : ℕ) (b : h < 8) where
   -- a straight step whose numbers fit, and that does not leave the row, is permitted: both ends are open, and of a straight step they are all its cells
   straight-lead : Sound m → (t : List ℕ) → Readable m t → h % 2 ≡ 0 → x < cells m → (y : ℕ) → y < cells m → Placed y
       → getD t x 0 ≡ getD t y 0 + cost h → leadOf m h x ≡ To y
-  straight-lead c t r even i y j p d = from-step m h x y (by (one-change h b even) (r .ends x y i j (d ∙ ap (λ (z : ℕ). getD t y 0 + z) (sym (cost-straight h even)))))
+  straight-lead c t r even i y j p d =
+      from-step m h x y (by (shape h b) (r .ends x y i j (d ∙ ap (λ (z : ℕ). getD t y 0 + z) (sym (cost-straight h even)))))
     where
-      by : (changeOf h .column ≡ 1) ⊎ (changeOf h .row ≡ 1) → Open m (x % m .width) (x / m .width) × Open m (y % m .width) (y / m .width)
-          → stepsOf m .Step h x y
-      by (inl k) (from, to) =
+      by : Shape h → Open m (x % m .width) (x / m .width) × Open m (y % m .width) (y / m .width) → stepsOf m .Step h x y
+      by (slanted odd k) ends = absurd (omega arith)
+      by (upright e₀ k) (from, to) =
           let e : x % m .width ≡ y % m .width = omega (arith, p .column) in
           record {
             heading = b;
@@ -114,7 +95,7 @@ module _ (m : Map) (h x : ℕ) (b : h < 8) where
             side = subst (λ (z : ℕ). Open m z (y / m .width)) (sym e) to;
             other = subst (λ (z : ℕ). Open m z (x / m .width)) e from;
           }
-      by (inr k) (from, to) =
+      by (level e₀ k) (from, to) =
           let e : x / m .width ≡ y / m .width = omega (arith, p .row) in
           record {
             heading = b;

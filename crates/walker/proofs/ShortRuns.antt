@@ -1,14 +1,15 @@
--- On a floor with sides of at most 128 no run of one heading is longer than 127: each of its steps changes the column by one, or the row by one, always the same way.
--- Assumes nothing.
-use mathlib.Core.Path.{_≡_, refl}
-use mathlib.Core.Logic.{_⊎_, inl, inr}
+-- On a floor with sides of at most 128 no run of one heading is longer than 127: each of its steps changes the column by one, or the row by
+-- one, always the same way.
+use mathlib.Core.Path.{_≡_}
 use mathlib.Core.List.{List}
 use Prim.Native.Nat.{ℕ, zero, suc, _+_, _%_, _/_, _≤_, _<_}
 use native.Mathlib.Omega.{arith}
+use native.Mathlib.Decide.{ℕ-discrete}
 use Rattle.lengths.specs.declared.Length.{Length}
-use Rattle.steps.specs.Heading.{changes, changeOf}
+use Rattle.steps.specs.Heading.{changeOf}
 use Rattle.steps.specs.Step.{Moved}
-use Rattle.steps.proofs.Grid.{Floor, graph, eight}
+use Rattle.steps.proofs.Grid.{Floor, graph}
+use Rattle.steps.proofs.Headings.{Changes, changes-of, row-moves}
 use Rattle.walker.specs.Route as walk
 use Rattle.walker.specs.Route.{Walk}
 use Rattle.walker.specs.Legs.{again}
@@ -23,14 +24,6 @@ drift-none k a = record { back = λ e. omega arith; on = λ e. omega arith }
 
 drift-more : {k a b c : ℕ} (n : ℕ) → Moved k a b → Drift k b c n → Drift k a c (suc n)
 drift-more n s d = record { back = λ e. let q = d .back e in omega (arith, s .sum); on = λ e. let q = d .on e in omega (arith, s .sum) }
-
--- a heading changes the column or the row
-abbrev Changes : ℕ → Type 0
-Changes h = ((changeOf h .column ≡ 0) ⊎ (changeOf h .column ≡ 2)) ⊎ ((changeOf h .row ≡ 0) ⊎ (changeOf h .row ≡ 2))
-
-one-changes : (h : ℕ) → h < 8 → Changes h
-unfolding changeOf changes
-one-changes = eight Changes (inr (inl refl)) (inl (inr refl)) (inl (inr refl)) (inl (inr refl)) (inr (inr refl)) (inl (inl refl)) (inl (inl refl)) (inl (inl refl))
 
 module _ (f : Floor) (wide : f .width ≤ 128) (high : f .height ≤ 128) where
   -- n steps by the heading h lead from x to z, which lies on the floor
@@ -47,10 +40,13 @@ module _ (f : Floor) (wide : f .width ≤ 128) (high : f .height ≤ 128) where
       (z, record { column = drift-more n (s .column) (o .column); row = drift-more n (s .row) (o .row); in-column = o .in-column; in-row = o .in-row })
 
   few : (h x z n : ℕ) → x % f .width < f .width → x / f .width < f .height → Changes h → On h x z n → n ≤ 127
-  few h x z n a b (inl (inl e)) o = omega (arith, o .column .back e)
-  few h x z n a b (inl (inr e)) o = omega (arith, o .column .on e, o .in-column)
-  few h x z n a b (inr (inl e)) o = omega (arith, o .row .back e)
-  few h x z n a b (inr (inr e)) o = omega (arith, o .row .on e, o .in-row)
+  few h x z n a b c o = by (ℕ-discrete (changeOf h .column) 0) (ℕ-discrete (changeOf h .column) 2) (ℕ-discrete (changeOf h .row) 0)
+    where
+      by : Dec (changeOf h .column ≡ 0) → Dec (changeOf h .column ≡ 2) → Dec (changeOf h .row ≡ 0) → n ≤ 127
+      by (yes e) q r = omega (arith, o .column .back e)
+      by (no p) (yes e) r = omega (arith, o .column .on e, o .in-column)
+      by (no p) (no q) (yes e) = omega (arith, o .row .back e)
+      by (no p) (no q) (no r) = omega (arith, o .row .on (row-moves h c (omega (arith, c .narrow)) r), o .in-row)
 
   pub run-short : (n h : ℕ) (hs : List ℕ) {x y : ℕ} {l : Length} → Walk (graph f) x y (again n h hs) l → n ≤ 127
   run-short zero h hs w = omega arith
@@ -58,4 +54,4 @@ module _ (f : Floor) (wide : f .width ≤ 128) (high : f .height ≤ 128) where
       let a = f .column _ _ (s .from) in
       let b = f .row _ _ (s .from) in
       let (z, o) = drifts (suc n) h hs a b (walk.step s w) in
-      few h x z (suc n) a b (one-changes h (s .heading)) o
+      few h x z (suc n) a b (changes-of h (s .heading)) o

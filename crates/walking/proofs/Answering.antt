@@ -1,5 +1,4 @@
 -- Each answer of the reader, from what its functions leave: no way at the mark; else what lies ahead of a walker at the start is the first route.
--- Assumes nothing.
 use mathlib.Core.Path.{_≡_, refl, sym, subst, ap, _∙_}
 use mathlib.Core.Logic.{_≢_}
 use mathlib.Core.List.{List}
@@ -21,7 +20,7 @@ use Rattle.walker.specs.declared.Walker.{Walker}
 use Rattle.walker.specs.Route.{FirstRoute}
 use Rattle.walker.specs.Legs.{Leg}
 use Rattle.walker.specs.Reading.{Order, Run, Starts}
-use Rattle.walker.proofs.Fitting.{getD-any}
+use Rattle.entries.proofs.Lists.{getD-any}
 use Rattle.walker.proofs.OnFloor.{first-run, no-way}
 use Rattle.walking.specs.declared.Way.{Way}
 use Rattle.walking.specs.declared.Reading.the-variants as reading

@@ -1,5 +1,4 @@
 -- A step adds its key to the key that a number stands for.
--- Assumes nothing.
 use mathlib.Core.Path.{_≡_, refl, ap, ap₂, _∙_}
 use Prim.Native.Nat.{ℕ, zero, suc, _+_, _-_, _*_, _/_, _%_, _≤_, _<_}
 use native.Mathlib.Omega.{arith}
@@ -7,7 +6,7 @@ use Rattle.lengths.proofs.Keys.{straightKey, key}
 use Rattle.steps.specs.Heading.{weight, byParity}
 use Rattle.offers.specs.Work.{span, extra, raise, lateOf, stepped}
 use Rattle.offers.proofs.Numbers.{late-bit, late-rest, early-rest, straight, diagonal}
-use Rattle.storing.specs.Store.{keyOf, Proper}
+use Rattle.storing.specs.Entries.{keyOf, InWave}
 
 -- a number made of its parts is taken apart
 apart : (q r : ℕ) → r < span → ((q * span + r) / span ≡ q) × ((q * span + r) % span ≡ r)
@@ -16,18 +15,18 @@ apart q r b = (omega arith, omega arith)
 -- a step adds its key, and leads from a place in a wave to a place in a wave
 pub record Adds (h v : ℕ) : Type 0 where
   pub sum : keyOf (stepped h v) ≡ keyOf v + key (weight h)
-  pub proper : Proper v → Proper (stepped h v)
+  pub in-wave : InWave v → InWave (stepped h v)
 
 -- it does if it leads to q waves and r, and these make the sum
 adds : (h v q r : ℕ) → stepped h v ≡ q * span + r → r < span → straightKey * q + r ≡ keyOf v + key (weight h)
-    → (Proper v → (raise ≤ r) × (r < raise + straightKey)) → Adds h v
+    → (InWave v → (raise ≤ r) × (r < raise + straightKey)) → Adds h v
 adds h v q r e b sum rest =
     let p = apart q r b in
     let d : stepped h v / span ≡ q = ap (λ (n : ℕ). n / span) e ∙ p .0 in
     let m : stepped h v % span ≡ r = ap (λ (n : ℕ). n % span) e ∙ p .1 in
     record {
       sum = ap₂ (λ (i j : ℕ). straightKey * i + j) d m ∙ sum;
-      proper = λ k. record { low = omega (arith, m, rest k); high = omega (arith, m, rest k) };
+      in-wave = λ k. record { low = omega (arith, m, rest k); high = omega (arith, m, rest k) };
     }
 
 pub steps-add : (h v : ℕ) → Adds h v
@@ -50,5 +49,5 @@ steps-add h v = by (h % 2) refl (lateOf v) refl
     by (suc (suc b)) e l f = absurd (omega arith)
 
 -- numbers are ordered as the keys that they stand for
-pub key-monotone : (u v : ℕ) → Proper u → Proper v → u ≤ v → keyOf u ≤ keyOf v
+pub key-monotone : (u v : ℕ) → InWave u → InWave v → u ≤ v → keyOf u ≤ keyOf v
 key-monotone u v p q le = omega (arith, p, q)

@@ -8,7 +8,8 @@ use Rattle.steps.specs.Heading.{changeOf}
 use Rattle.steps.specs.Step.{Step}
 use Rattle.steps.proofs.Grid.{Floor}
 use Rattle.offers.specs.Work.{stride, at, spot, beside, across, WorkStep}
-use Rattle.offers.proofs.Turns.{turned, also}
+use Rattle.steps.proofs.Headings.{changes-of}
+use Rattle.offers.proofs.InWork.{also}
 
 -- the floor f stands in the work array x
 pub record Mapped (f : Floor) (x : List ℕ) : Type 0 where
@@ -39,19 +40,6 @@ same-cell f wide few y z e =
     let b = spot-row (y % f .width) (y / f .width) (z % f .width) (z / f .width) (narrow f wide few y) (narrow f wide few z) e in
     sym (div-add-mod' y (f .width)) ∙ ap₂ (λ (u v : ℕ). u * f .width + v) b a ∙ div-add-mod' z (f .width)
 
--- a step can be walked back
-pub back : (floor : List ℕ) (h a b : ℕ) → stride + 1 ≤ a → stride + 1 ≤ b → WorkStep floor h a b → WorkStep floor ((h + 4) % 8) b a
-back floor h a b low low′ s =
-    let t = turned h (s .heading) in
-    record {
-      heading = omega arith;
-      place = omega (arith, s .place, t);
-      from = s .to;
-      to = s .from;
-      side = also floor (across a h) _ (omega (arith, s .place, t)) (s .other);
-      other = also floor (beside a h) _ (omega (arith, s .place, t)) (s .side);
-    }
-
 module _ (f : Floor) (x : List ℕ) (m : Mapped f x) where
   -- the floor's steps are the work array's
   pub to-work : (h c r c′ r′ : ℕ) → Step (f .Open) h c r c′ r′ → WorkStep x h (spot c r) (spot c′ r′)
@@ -75,7 +63,7 @@ module _ (f : Floor) (x : List ℕ) (m : Mapped f x) where
 
   pub from-work : (h c r c′ r′ : ℕ) → f .Open c r → f .Open c′ r′ → WorkStep x h (spot c r) (spot c′ r′) → Step (f .Open) h c r c′ r′
   from-work h c r c′ r′ o o′ s =
-      let t = turned h (s .heading) in
+      let t = changes-of h (s .heading) in
       let n = m .narrow in
       let a = f .column c r o in
       let b = f .column c′ r′ o′ in

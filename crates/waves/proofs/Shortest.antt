@@ -10,19 +10,20 @@ use native.Mathlib.Nat.{le-refl}
 use Rattle.lengths.specs.declared.Length.{Length}
 use Rattle.lengths.specs.Order.{zeroLength, _⊕_, _⊑_}
 use Rattle.lengths.proofs.Keys.{straightKey, diagonalKey, key, key-order, pair, pair-back}
-use Rattle.steps.specs.Heading.{weight, byParity}
-use Rattle.steps.proofs.Grid.{Floor, graph, cell, cell-column, cell-row}
+use Rattle.steps.specs.Heading.{weight}
+use Rattle.steps.proofs.Grid.{Floor, graph, step-back, same-weight, cell, cell-column, cell-row}
+use Rattle.steps.proofs.Headings.{opposite}
 use Rattle.entries.specs.Entry.{Entry, mark, long}
 use Rattle.entries.specs.Filled.{Says}
 use Rattle.entries.specs.Made.{Least, Made}
 use Rattle.entries.proofs.Neighbours.{no-mark, long-inj, sound}
 use Rattle.offers.specs.Work.{unreached, stride, atGoal, stepped, at, spot, WorkStep}
 use Rattle.passes.specs.Solved.{Found, Solved}
-use Rattle.storing.specs.Store.{keyOf, goalKey, entryOf, Proper, Keyed}
+use Rattle.storing.specs.Entries.{keyOf, goalKey, entryOf, InWave, Keyed}
 use Rattle.storing.proofs.NumberKinds.{Kind, shut, waits, reached, kind}
 use Rattle.offers.proofs.Numbers.{like, stretch}
 use Rattle.waves.proofs.Adds.{steps-add, key-monotone}
-use Rattle.waves.proofs.OnWork.{Mapped, placeOf, narrow, back, to-work, from-work, opens}
+use Rattle.waves.proofs.OnWork.{Mapped, placeOf, narrow, to-work, from-work, opens}
 
 module _ (floor x : List ℕ) (s : Solved floor x) where
   -- each number that was found stands for a length: that of the cell it was found from, and the step
@@ -33,14 +34,14 @@ module _ (floor x : List ℕ) (s : Solved floor x) where
       by : (at floor z ≡ atGoal) ⊎ Found floor x z (at x z) → ((y : ℕ) → at x y ≤ n → 0 < at x y → at x y < unreached → Keyed (at x y)) → Keyed (at x z)
       by (inl e) ih =
           let start = s .start z e in
-          record { length = zeroLength; sum = ap keyOf start; proper = record { low = omega arith; high = omega arith } }
+          record { size = zeroLength; sum = ap keyOf start; in-wave = record { low = omega arith; high = omega arith } }
       by (inr u) ih =
           let k = ih (u .cell) (omega (arith, u .sum, stretch (u .heading) (at x (u .cell)))) (s .free (u .cell) (u .step .from)) (u .found) in
           let add = steps-add (u .heading) (at x (u .cell)) in
           record {
-            length = k .length ⊕ weight (u .heading);
+            size = k .size ⊕ weight (u .heading);
             sum = ap keyOf (u .sum) ∙ add .sum ∙ ap (λ (n : ℕ). n + key (weight (u .heading))) (k .sum) ∙ omega arith;
-            proper = subst Proper (sym (u .sum)) (add .proper (k .proper));
+            in-wave = subst InWave (sym (u .sum)) (add .in-wave (k .in-wave));
           }
 
   pub keyed : (z : ℕ) → 0 < at x z → at x z < unreached → Keyed (at x z)
@@ -82,17 +83,12 @@ module _ (f : Floor) (wide : 0 < f .width) (floor x : List ℕ) (m : Mapped f fl
   there : (h y z : ℕ) → (graph f) .Step h y z → WorkStep floor h (place y) (place z)
   there h y z u = to-work f floor m h _ _ _ _ u
 
-  low : (y : ℕ) → stride + 1 ≤ place y
-  low y = omega arith
-
-  again : (h y z : ℕ) → (graph f) .Step h y z → WorkStep floor ((h + 4) % 8) (place z) (place y)
-  again h y z u = back floor h (place y) (place z) (low y) (low z) (there h y z u)
-
   -- over a step from y to z, y is not above z and the step
   over : (h y z : ℕ) → (graph f) .Step h y z → at x (place z) < unreached → at x (place y) ≤ stepped h (at x (place z))
   over h y z u k =
-      let parity : h % 2 ≡ (h + 4) % 8 % 2 = omega arith in
-      omega (arith, s .relaxed ((h + 4) % 8) (place z) (place y) (again h y z u) k, like h ((h + 4) % 8) (at x (place z)) parity)
+      let parity : h % 2 ≡ opposite h % 2 = omega arith in
+      let again = there (opposite h) z y (step-back f h y z u) in
+      omega (arith, s .relaxed (opposite h) (place z) (place y) again k, like h (opposite h) (at x (place z)) parity)
 
   marks : (y : ℕ) → (at x (place y) ≡ 0) ⊎ (unreached ≤ at x (place y)) → Least (graph f) T y mark
   marks y v h z u = by (kind (at x (place z))) v
@@ -123,19 +119,18 @@ module _ (f : Floor) (wide : 0 < f .width) (floor x : List ℕ) (m : Mapped f fl
           let o′ = opens f floor m (y % f .width) (y / f .width) (narrow f wide (m .narrow) y) (u .step .to) in
           let p′ : f .Open (z % f .width) (z / f .width) = subst₂ (f .Open) (sym zc) (sym zr) p in
           let st = subst (λ (i : ℕ). WorkStep floor (u .heading) i (place y)) (sym at-z) (u .step) in
-          let go = from-work f floor m ((u .heading + 4) % 8) _ _ _ _ o′ p′ (back floor (u .heading) (place z) (place y) (low z) (low y) st) in
+          let go = step-back f (u .heading) z y (from-work f floor m (u .heading) _ _ _ _ p′ o′ st) in
           let same : at x (place z) ≡ at x (u .cell) = ap (at x) at-z in
           let free = s .free (u .cell) from in
           let kz = keyed floor x s (place z) (omega arith) (omega (arith, u .found)) in
-          let n = kz .length in
-          let parity : (u .heading + 4) % 8 % 2 ≡ u .heading % 2 = omega arith in
-          let e : weight ((u .heading + 4) % 8) ≡ weight (u .heading) = ap byParity parity in
+          let n = kz .size in
+          let e = same-weight (u .heading) in
           let entry-z = reads z (omega arith) (omega (arith, u .found)) n (kz .sum) in
           let found = ap keyOf (u .sum ∙ ap (stepped (u .heading)) (sym same)) ∙ steps-add (u .heading) (at x (place z)) .sum in
           let sum : keyOf (at x (place y)) ≡ goalKey + key (n ⊕ weight (u .heading)) =
           found ∙ ap (λ (v : ℕ). v + key (weight (u .heading))) (kz .sum) ∙ omega arith in
           let read-y = read floor x s (place y) k (n ⊕ weight (u .heading)) sum in
-          ((u .heading + 4) % 8, z, n, go, entry-z, read-y ∙ ap (λ (d : Length). n ⊕ d) (sym e))
+          (opposite (u .heading), z, n, go, entry-z, read-y ∙ ap (λ (d : Length). n ⊕ d) (sym e))
         where
           reads : (z : ℕ) → 0 < at x (place z) → at x (place z) < unreached → (n : Length) → keyOf (at x (place z)) ≡ goalKey + key n
               → T z ≡ long n
@@ -156,10 +151,10 @@ module _ (f : Floor) (wide : 0 < f .width) (floor x : List ℕ) (m : Mapped f fl
               let ky = keyed floor x s (place y) o k in
               let kz = keyed floor x s (place z) d b in
               let add = steps-add h (at x (place z)) in
-              let same : n ≡ kz .length = long-inj (sym e ∙ p) ∙ read floor x s (place z) b (kz .length) (kz .sum) in
-              subst₂ _⊑_ (sym (read floor x s (place y) k (ky .length) (ky .sum))) (ap (λ (d : Length). d ⊕ weight h) (sym same))
-              (key-order (ky .length) (kz .length ⊕ weight h) (few floor x s (place y) k (ky .length) (ky .sum) .0)
-              (omega (arith, key-monotone _ _ (ky .proper) (add .proper (kz .proper)) (over h y z u b), add .sum, ky .sum, kz .sum)))
+              let same : n ≡ kz .size = long-inj (sym e ∙ p) ∙ read floor x s (place z) b (kz .size) (kz .sum) in
+              subst₂ _⊑_ (sym (read floor x s (place y) k (ky .size) (ky .sum))) (ap (λ (d : Length). d ⊕ weight h) (sym same))
+              (key-order (ky .size) (kz .size ⊕ weight h) (few floor x s (place y) k (ky .size) (ky .sum) .0)
+              (omega (arith, key-monotone _ _ (ky .in-wave) (add .in-wave (kz .in-wave)) (over h y z u b), add .sum, ky .sum, kz .sum)))
 
   made : (y : ℕ) → Made (graph f) Goal T y (T y)
   made y = record { at-goal = at-goal y; elsewhere = λ other. by other (kind (at x (place y))) }

@@ -5,7 +5,7 @@ use mathlib.Core.Bool.{Bool, true, false}
 use mathlib.Core.List.{List, [], _∷_}
 use Prim.Native.Nat.{ℕ, zero, suc, _+_, _-_, _*_, _/_, _%_, _≤_, _<_}
 use native.Mathlib.Omega.{arith}
-use native.Mathlib.Nat.{mod-lt, mul-le-mul}
+use native.Mathlib.Nat.{mod-lt, mul-le-mul, zero-add}
 use lib.ListN.{getD, length, set, length-set, replicate, length-replicate, getD-replicate, List·getD-eq-default}
 use native.Mathlib.Decide.{decLe, ℕ-discrete}
 use lib.Seq.{getD-set-same}
@@ -17,21 +17,17 @@ use Rattle.steps.specs.Step.{stepsOf}
 use Rattle.steps.specs.Way.{Only}
 use Rattle.steps.proofs.Leads.{open-column, open-row, floor, Past, past}
 use Rattle.entries.specs.Filled.{Filled}
+use Rattle.entries.proofs.Lists.{getD-any, each}
 use Rattle.offers.specs.Work.{unreached, stride, largest, atGoal, at, spot, Inside}
 use Rattle.passes.specs.Solved.{Loaded, Goals, Solved}
 use Rattle.loading.specs.Load.{numberOf, loaded, Prefix}
-use Rattle.storing.specs.Store.{entryOf, Storable, Stored}
+use Rattle.entries.specs.Written.{Written}
+use Rattle.storing.specs.Entries.{entryOf, AllSettled, entryOfCell}
 use Rattle.waves.specs.Fill.{Fillable, Scratch}
-use Rattle.offers.proofs.Changed.{each, waiting-set}
+use Rattle.offers.proofs.Changed.{waiting-set}
 use Rattle.waves.proofs.OnWork.{Mapped, placeOf, same-cell}
 use Rattle.waves.proofs.Shortest.{keyed, GoalNumbers, says}
 use Rattle.loading.proofs.MapLoaded.{prefix-all}
-
--- what is read inside a list does not depend on what stands for the rest
-getD-any : (t : List ℕ) (y d e : ℕ) → y < length t → getD t y d ≡ getD t y e
-getD-any [] y d e h = absurd (omega arith)
-getD-any (v ∷ t) zero d e h = refl
-getD-any (v ∷ t) (suc y) d e h = getD-any t y d e (omega arith)
 
 number-holds : (t : Bool) → 0 < numberOf t → Holds t
 number-holds true o = tt
@@ -84,7 +80,7 @@ module _ (m : Map) (goal entries : ℕ) (a : Fillable m goal entries) (x : List 
   -- a cell with a number is open
   behind : (z : ℕ) → 0 < at x′ z → Past m (z % stride) (z / stride)
   unfolding loaded
-  behind = each x g atGoal goal-on (λ z v. 0 < v → Past m (z % stride) (z / stride)) (λ o. at-goal) (λ z e o. on z o)
+  behind = each 0 x g atGoal goal-on (λ z v. 0 < v → Past m (z % stride) (z / stride)) (λ o. at-goal) (λ z e o. on z o)
     where
       on : (z : ℕ) → 0 < at x z → Past m (z % stride) (z / stride)
       on z o =
@@ -117,13 +113,13 @@ module _ (m : Map) (goal entries : ℕ) (a : Fillable m goal entries) (x : List 
     small = omega (arith, a .table, mul-le-mul (a .sound .high) (a .sound .wide));
     enough =
         omega (arith, a .table, p .few, waiting-set x g atGoal goal-on, waits (goal % m .width) (goal / m .width) (a .chosen .free));
-    kinds = each x g atGoal goal-on (λ z v. (v ≡ atGoal) ⊎ ((v ≡ 0) ⊎ (v ≡ unreached))) (inl refl) (λ z e. inr (kinds z));
+    kinds = each 0 x g atGoal goal-on (λ z v. (v ≡ atGoal) ⊎ ((v ≡ 0) ⊎ (v ≡ unreached))) (inl refl) (λ z e. inr (kinds z));
     border = border;
   }
 
   -- the goal's place has the goal's number, and no other place
   alone : (z : ℕ) → at x′ z ≡ atGoal → z ≡ g
-  alone = each x g atGoal goal-on (λ z v. v ≡ atGoal → z ≡ g) (λ e. refl) (λ z d e. absurd (other (kinds z) e))
+  alone = each 0 x g atGoal goal-on (λ z v. v ≡ atGoal → z ≡ g) (λ e. refl) (λ z d e. absurd (other (kinds z) e))
     where
       other : {v : ℕ} → (v ≡ 0) ⊎ (v ≡ unreached) → ¬ (v ≡ atGoal)
       other (inl p) e = omega arith
@@ -146,7 +142,7 @@ module _ (m : Map) (goal entries : ℕ) (a : Fillable m goal entries) (x : List 
   mapped : Mapped (floor m) x′
   mapped = record {
     narrow = a .sound .wide;
-    free = λ c r o. each x g atGoal goal-on (λ z v. z ≡ spot c r → 0 < v) (λ e. omega arith) (λ z d e. omega (arith, ap (at x) e, waits c r o)) (spot c r) refl;
+    free = λ c r o. each 0 x g atGoal goal-on (λ z v. z ≡ spot c r → 0 < v) (λ e. omega arith) (λ z d e. omega (arith, ap (at x) e, waits c r o)) (spot c r) refl;
     column = λ z o. z % stride - 1;
     row = λ z o. z / stride - 1;
     opened = λ z o. behind z o .«open»;
@@ -154,21 +150,23 @@ module _ (m : Map) (goal entries : ℕ) (a : Fillable m goal entries) (x : List 
   }
 
   module _ (x″ : List ℕ) (s : Solved x′ x″) where
-    pub storable : Storable (m .width) (m .height) x″
-    storable = record {
+    pub settled : AllSettled (m .width) (m .height) x″
+    settled = record {
       wide = a .sound .wide;
       high = a .sound .high;
       tall = omega (arith, p .tall, s .cells, length-set x g atGoal);
       all = λ z. record { keyed = keyed x′ x″ s z; below = s .below z };
     }
 
-    pub filled : (t : List ℕ) → Stored (m .width) (m .height) x″ (cells m) t → Filled (stepsOf m) (Only goal) (cells m) t
-    filled t st = record {
-      size = st .size;
+    pub filled :
+        (q t : List ℕ) → Written (entryOfCell (m .width) x″) 0 (cells m) q t → length q ≡ entries → Filled (stepsOf m) (Only goal) (cells m) t
+    filled q t w same = record {
+      size = w .size ∙ same ∙ a .table;
       entries = λ y k. record {
         what = entryOf (at x″ (spot (y % m .width) (y / m .width)));
         says = says (floor m) (a .sound .some-wide) x′ x″ mapped (Only goal) goal-numbers s y;
-        same = getD-any t y 4294967295 0 (omega (arith, st .size)) ∙ st .done y k;
+        same =
+            getD-any t y 4294967295 0 (omega (arith, w .size, same, a .table)) ∙ ap (λ (n : ℕ). getD t n 0) (sym (zero-add y)) ∙ w .inside y k;
       };
     }
 

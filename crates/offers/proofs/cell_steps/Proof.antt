@@ -1,13 +1,12 @@
 -- `offers::cell_steps` meets its contract. The invariant: the steps with the headings before this one were taken, and the mask that is kept is
 -- that of the side cell behind.
--- Assumes nothing.
 use mathlib.Core.Path.{_≡_, refl, _∙_}
 use Prim.Native.Nat.{_-_}
 use native.Mathlib.Omega.{arith}
 use lib.ListN.{length}
 use borrow.Author.Needs.{needs}
 use Rattle.offers.proofs.Changed.{made-size}
-use Rattle.offers.proofs.Turns.{in-work}
+use Rattle.offers.proofs.InWork.{in-work}
 use Rattle.offers.proofs.Kept.{Headings}
 use Rattle.offers.proofs.ManySteps.{headings-none, headings-more, headings-all}
 use Rattle.offers.proofs.cell_steps.Statement.{statement}

@@ -1,8 +1,7 @@
 -- `offers::place_of` meets its contract: the table's change is added, which is at most two columns and rows.
--- Assumes nothing.
 use native.Mathlib.Omega.{arith}
 use borrow.Author.Needs.{needs}
-use Rattle.offers.proofs.Turns.{ReadOf, read-of}
+use Rattle.steps.proofs.Headings.{ReadOf, read-of}
 use Rattle.offers.proofs.place_of.Statement.{statement}
 use Rattle.offers.proofs.place_of.Tie as tie
 

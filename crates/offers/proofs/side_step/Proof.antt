@@ -1,5 +1,4 @@
 -- `offers::side_step` meets its contract: the heading leads to a place of the array, and the number counts, so a cell that was not reached now is.
--- Assumes nothing.
 use mathlib.Core.Path.{_≡_, subst}
 use mathlib.Core.List.{List}
 use Prim.Native.Nat.{ℕ}
@@ -8,7 +7,7 @@ use borrow.Author.Needs.{needs}
 use Rattle.offers.specs.Work.{at, target}
 use Rattle.offers.specs.Taken.{OfferMade, MaskRead, SideStep}
 use Rattle.offers.proofs.Changed.{lowered-made}
-use Rattle.offers.proofs.Turns.{in-work}
+use Rattle.offers.proofs.InWork.{in-work}
 use Rattle.offers.proofs.side_step.Statement.{statement}
 use Rattle.offers.proofs.side_step.Tie as tie
 

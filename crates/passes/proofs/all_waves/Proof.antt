@@ -6,7 +6,7 @@ use Prim.Native.Nat.{ℕ, _-_}
 use native.Mathlib.Omega.{arith}
 use borrow.Author.Needs.{needs}
 use lib.ListN.{length}
-use Rattle.passes.specs.Solved.{Loaded, Goals, AllGoalsDone}
+use Rattle.passes.specs.Solved.{Loaded, Goals, GoalsDone}
 use Rattle.passes.proofs.Kept.{Between}
 use Rattle.passes.proofs.FirstWave.{begin}
 use Rattle.passes.proofs.SomeCell.{small}
@@ -17,7 +17,7 @@ use Rattle.passes.proofs.all_waves.Tie as tie
 
 abbrev Inv-loop : tie.InvT-loop
 Inv-loop work₀ queue₀ goals mid₀ fresh₀ tail₀ limit₀ work queue mid fresh tail limit =
-    ((x q : List ℕ) → Loaded x q → Goals x goals → AllGoalsDone goals x q work₀ queue₀ tail₀ → Between x mid fresh tail limit work queue)
+    ((x q : List ℕ) → Loaded x q → Goals x goals → GoalsDone goals x q work₀ queue₀ tail₀ → Between x mid fresh tail limit work queue)
     × (length queue ≡ length queue₀)
 
 abbrev μ-loop : tie.MeasureT-loop

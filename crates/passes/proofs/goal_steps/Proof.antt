@@ -2,50 +2,54 @@
 use mathlib.Core.Path.{_≡_, refl}
 use Prim.Native.Nat.{_-_, _≤_}
 use native.Mathlib.Omega.{arith}
-use lib.ListN.{length}
+use lib.ListN.{getD, length}
 use borrow.Author.Needs.{needs}
-use Rattle.passes.specs.Solved.{Loaded, Goals, GoalsDone}
-use Rattle.passes.proofs.FirstWave.{goals-none, goal-inside, goal-low, goals-more, goals-all}
+use Rattle.passes.specs.Pass.{StepsDone}
+use Rattle.passes.specs.Solved.{Loaded, Goals, goalWave}
+use Rattle.passes.proofs.FirstWave.{still, in-wave}
+use Rattle.passes.proofs.OnePass.{CanStep, steps-none, can-step, one-more, steps-all}
 use Rattle.passes.proofs.goal_steps.Statement.{statement}
 use Rattle.passes.proofs.goal_steps.Tie as tie
 
 abbrev Inv-loop : tie.InvT-loop
 Inv-loop work₀ queue₀ goals end₀ i₀ work queue end i =
-    (Loaded work₀ queue₀ → Goals work₀ goals → GoalsDone goals i work₀ queue₀ work queue end) × (i ≤ length goals) × (length queue ≡ length queue₀)
+    (Loaded work₀ queue₀ → StepsDone (goalWave work₀) goals 0 i work₀ queue₀ work queue end)
+    × (i ≤ length goals)
+    × (length queue ≡ length queue₀)
 
 abbrev μ-loop : tie.MeasureT-loop
 μ-loop work₀ queue₀ goals end₀ i₀ work queue end i = length goals - i
 
 loop-holds : tie.Need-loop-holds Inv-loop μ-loop
-loop-holds c = (λ l g. goals-none _ _ l _ g, omega arith, refl)
+loop-holds c = (λ l. steps-none _ _ _ _ _ _ (still _ _ l), omega arith, refl)
 
 mul-from : tie.Need-mul-from Inv-loop μ-loop
 mul-from c = let s : tie.Start Inv-loop μ-loop = search in omega (arith, s .pre .1 .few)
 
 -- the place at i can be stepped out of
-cast-from : tie.Need-cast-from Inv-loop μ-loop
-cast-from c =
+safe :
+    (c : tie.In-loop Inv-loop μ-loop)
+    → let s : tie.Start Inv-loop μ-loop = search in
+    let l = c .before .loop in
+    CanStep (l .work) (l .queue) (getD (s .args .goals .now) (l .i) 0) (l .end)
+safe c =
     let s : tie.Start Inv-loop μ-loop = search in
-    let turn : tie.In-loop Inv-loop μ-loop = search in
-    let d = turn .before .loop .inv .0 (s .pre .0) (s .pre .1) in
-    let n = turn .loop-test .taken in
-    record { fits = omega (arith, goal-inside _ _ (s .pre .0) _ (s .pre .1) _ _ _ _ d n .high, d .going .room .few) }
+    can-step _ _ _ _ _ _ _ _ _ (c .before .loop .inv .0 (s .pre .0)) (omega arith) (in-wave _ _ (s .pre .0) _ (s .pre .1) _ (c .loop-test .taken))
+
+cast-from : tie.Need-cast-from Inv-loop μ-loop
+cast-from c = let t : tie.In-loop Inv-loop μ-loop = search in let k = safe t in omega (arith, k .inside, k .room)
 
 cell-steps-requires : tie.Need-cell-steps-requires Inv-loop μ-loop
-cell-steps-requires c κs =
-    let s : tie.Start Inv-loop μ-loop = search in
-    let turn : tie.In-loop Inv-loop μ-loop = search in
-    let d = turn .before .loop .inv .0 (s .pre .0) (s .pre .1) in
-    let n = turn .loop-test .taken in
-    (goal-inside _ _ (s .pre .0) _ (s .pre .1) _ _ _ _ d n, (goal-low _ _ (s .pre .0) _ (s .pre .1) _ _ _ _ d n, d .going .room))
+cell-steps-requires c κs = let t : tie.In-loop Inv-loop μ-loop = search in let k = safe t in (k .inside, (k .low, k .room))
 
 loop-again : tie.Need-loop-again Inv-loop μ-loop
 loop-again c =
+    let s : tie.Start Inv-loop μ-loop = search in
     let turn : tie.In-loop Inv-loop μ-loop = search in
     let call : tie.After-cell-steps Inv-loop μ-loop = search in
     let i = turn .before .loop .inv in
     let n = turn .loop-test .taken in (
-      λ l g. goals-more _ _ l _ g _ _ _ _ (i .0 l g) n _ _ _ (call .cell-steps .ensures),
+      λ l. one-more _ _ _ _ _ _ _ _ _ (i .0 l) (omega arith) (in-wave _ _ l _ (s .pre .1) _ n) _ _ _ (call .cell-steps .ensures),
       omega arith,
       omega (arith, call .cell-steps .kept .1, i .2),
     )
@@ -54,13 +58,13 @@ same-length : tie.Need-same-length Inv-loop μ-loop
 same-length c =
     let s : tie.Start Inv-loop μ-loop = search in
     let l : tie.At-loop Inv-loop μ-loop = search in
-    l .loop .inv .0 (s .pre .0) (s .pre .1) .going .cells
+    l .loop .inv .0 (s .pre .0) .going .cells
 
 returns : tie.Need-returns Inv-loop μ-loop
 returns c =
     let s : tie.Start Inv-loop μ-loop = search in
     let l : tie.At-loop Inv-loop μ-loop = search in
-    goals-all _ _ _ _ _ _ _ (l .loop .inv .0 (s .pre .0) (s .pre .1)) (search needs)
+    steps-all _ _ _ _ _ _ _ _ _ _ (l .loop .inv .0 (s .pre .0)) (search needs)
 
 pub goal-steps-spec : {M : Type 1} → statement M
 goal-steps-spec =

@@ -1,19 +1,19 @@
 -- `passes::ready_steps` meets its contract. The invariant: the cells before i have taken their steps, in every wave whose cells they are.
--- Assumes nothing.
 use mathlib.Core.Path.{_≡_, refl, sym, _∙_}
-use Prim.Native.Nat.{_-_, _≤_}
+use mathlib.Core.List.{List}
+use Prim.Native.Nat.{ℕ, _-_, _≤_, _<_}
 use native.Mathlib.Omega.{arith}
-use lib.ListN.{length}
+use lib.ListN.{getD, length}
 use borrow.Author.Needs.{needs}
 use Rattle.offers.specs.Wave.{Wave}
 use Rattle.passes.specs.Pass.{StepsReady, StepsDone}
-use Rattle.passes.proofs.OnePass.{CanStep, steps-none, step-safe, steps-more, steps-all}
+use Rattle.passes.proofs.OnePass.{CanStep, steps-none, in-queue, step-safe, steps-more, steps-all}
 use Rattle.passes.proofs.ready_steps.Statement.{statement}
 use Rattle.passes.proofs.ready_steps.Tie as tie
 
 abbrev Inv-loop : tie.InvT-loop
 Inv-loop work₀ queue₀ mid top tail end₀ i₀ work queue end i =
-    ((w : Wave) → StepsReady w work₀ queue₀ mid top tail → StepsDone w mid i work₀ queue₀ work queue end)
+    ((w : Wave) → StepsReady w work₀ queue₀ mid top tail → StepsDone w queue₀ mid i work₀ queue₀ work queue end)
     × (mid ≤ i)
     × (length queue ≡ length queue₀)
 
@@ -21,54 +21,61 @@ abbrev μ-loop : tie.MeasureT-loop
 μ-loop work₀ queue₀ mid top tail end₀ i₀ work queue end i = top - i
 
 loop-holds : tie.Need-loop-holds Inv-loop μ-loop
-loop-holds c = (λ w r. steps-none w _ _ _ _ _ r, omega arith, refl)
+loop-holds c = (λ w r. steps-none w _ _ _ _ _ (r .going), omega arith, refl)
 
 -- the cell at i can be read and stepped out of
-safe : (c : tie.In-loop Inv-loop μ-loop) → CanStep (c .before .loop .work) (c .before .loop .queue) (c .before .loop .i) (c .before .loop .end)
+record Safe (x q : List ℕ) (i t : ℕ) : Type 0 where
+  index : i < length q
+  cell : CanStep x q (getD q i 0) t
+
+safe : (c : tie.In-loop Inv-loop μ-loop) → let l = c .before .loop in Safe (l .work) (l .queue) (l .i) (l .end)
 safe c =
-    let p = c .before .before .before .before .pre in
+    let s : tie.Start Inv-loop μ-loop = search in
+    let w = s .pre .wave in
+    let r = s .pre .ready in
     let i = c .before .loop .inv in
-    step-safe (p .wave) _ _ _ _ _ (p .ready) _ _ _ _ (i .0 (p .wave) (p .ready)) (i .1) (c .loop-test .taken)
+    let n = c .loop-test .taken in
+    record {
+      index = in-queue w _ _ _ _ _ r _ _ _ _ (i .0 w r) (i .1) n;
+      cell = step-safe w _ _ _ _ _ r _ _ _ _ (i .0 w r) (i .1) n;
+    }
 
 mul-from : tie.Need-mul-from Inv-loop μ-loop
-mul-from c = let k = safe c in omega (arith, k .index, k .room)
+mul-from c = let t : tie.In-loop Inv-loop μ-loop = search in let k = safe t in omega (arith, k .index, k .cell .room)
 
 slice-read-from : tie.Need-slice-read-from Inv-loop μ-loop
-slice-read-from c = safe (c .before) .index
+slice-read-from c = let t : tie.In-loop Inv-loop μ-loop = search in safe t .index
 
 cast-from : tie.Need-cast-from Inv-loop μ-loop
-cast-from c = let k = safe (c .before) in omega (arith, k .inside, k .room)
+cast-from c = let t : tie.In-loop Inv-loop μ-loop = search in let k = safe t .cell in omega (arith, k .inside, k .room)
 
 cell-steps-requires : tie.Need-cell-steps-requires Inv-loop μ-loop
-cell-steps-requires c κs = let k = safe (c .before .before .before) in (k .inside, (k .low, k .room))
+cell-steps-requires c κs = let t : tie.In-loop Inv-loop μ-loop = search in let k = safe t .cell in (k .inside, (k .low, k .room))
 
 add-i : tie.Need-add-i Inv-loop μ-loop
-add-i c = let k = safe (c .before .before .before .before .before .before .before .before) in omega (arith, k .index, k .room)
-
-loop-less : tie.Need-loop-less Inv-loop μ-loop
-loop-less c = search needs
+add-i c = let t : tie.In-loop Inv-loop μ-loop = search in let k = safe t in omega (arith, k .index, k .cell .room)
 
 loop-again : tie.Need-loop-again Inv-loop μ-loop
 loop-again c =
-    let turn = c .before .before .before .before .before .before .before .before in
-    let call = c .before .before .before .before .cell-steps in
+    let turn : tie.In-loop Inv-loop μ-loop = search in
+    let call : tie.After-cell-steps Inv-loop μ-loop = search in
     let i = turn .before .loop .inv in
     let n = turn .loop-test .taken in (
-      λ w r. steps-more w _ _ _ _ _ r _ _ _ _ (i .0 w r) (i .1) n _ _ _ (call .ensures),
+      λ w r. steps-more w _ _ _ _ _ r _ _ _ _ (i .0 w r) (i .1) n _ _ _ (call .cell-steps .ensures),
       omega arith,
-      omega (arith, call .kept .1, i .2),
+      omega (arith, call .cell-steps .kept .1, i .2),
     )
 
 same-length : tie.Need-same-length Inv-loop μ-loop
 same-length c =
-    let p = c .before .before .before .before .pre in
-    c .before .loop .inv .0 (p .wave) (p .ready) .going .cells ∙ sym (p .ready .going .cells)
-
-same-length-2 : tie.Need-same-length-2 Inv-loop μ-loop
-same-length-2 c = c .before .loop .inv .2
+    let s : tie.Start Inv-loop μ-loop = search in
+    let l : tie.At-loop Inv-loop μ-loop = search in
+    l .loop .inv .0 (s .pre .wave) (s .pre .ready) .going .cells ∙ sym (s .pre .ready .going .cells)
 
 returns : tie.Need-returns Inv-loop μ-loop
-returns c = λ w r. steps-all w _ _ _ _ _ _ _ _ (c .before .loop .inv .0 w r) (c .loop-test .left)
+returns c =
+    let l : tie.At-loop Inv-loop μ-loop = search in
+    λ w r. steps-all w _ _ _ _ _ _ _ _ _ (l .loop .inv .0 w r) (c .loop-test .left)
 
 pub ready-steps-spec : {M : Type 1} → statement M
 ready-steps-spec =
@@ -82,8 +89,8 @@ ready-steps-spec =
     cast-from
     cell-steps-requires
     add-i
-    loop-less
+    (λ c. search needs)
     loop-again
     same-length
-    same-length-2
+    (λ c. search needs)
     returns)

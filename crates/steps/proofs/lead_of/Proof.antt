@@ -1,10 +1,9 @@
 -- `floor::steps::lead_of` meets its contract: a permitted step ends on the floor (`leads-end`), so nothing wraps, and each way out is a law of proofs/Stepping.
--- Assumes nothing.
 use Prim.Native.Nat.{ℕ, _+_, _-_, _*_, _/_, _%_, _≤_}
 use native.Mathlib.Omega.{arith}
 use borrow.Author.Tests.{not-true, not-false}
 use Rattle.floor.specs.Floor.{Map, mapOf}
-use Rattle.steps.proofs.Headings.{change-small}
+use Rattle.steps.proofs.Headings.{changes-of}
 use Rattle.floor.proofs.Reading.{small}
 use Rattle.steps.proofs.Stepping.{place, Ends as StepEnds, leads-nowhere, leads-to, leads-end}
 use borrow.Author.Needs.{needs}
@@ -25,8 +24,8 @@ permitted-requires c κs =
     let a = c .before .before .args in
     let sound = c .before .before .pre .0 in
     let on = place (mapOf (a .width) (a .height) (a .map .now)) sound (a .cell) (c .before .before .pre .1 .1) in
-    let change = change-small (a .heading) (c .before .before .pre .1 .0) in
-    (sound, (rw (c .change-of .ensures) change, (omega (arith, sound), omega (arith, sound))))
+    let change = changes-of (a .heading) (c .before .before .pre .1 .0) in
+    (sound, (rw (c .change-of .ensures) (change .narrow, change .flat), (omega (arith, sound), omega (arith, sound))))
 
 returns : tie.Need-returns
 returns c = leads-nowhere (mapOf _ _ _) _ _ _ (c .before .before .change-of .ensures) _ (c .before .permitted .ensures) (not-true _ (c .if1 .taken))

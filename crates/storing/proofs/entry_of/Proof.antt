@@ -1,11 +1,10 @@
 -- `storing::entry_of` meets its contract: the mark where no length stands, else the parts of the key that the number stands for, which
 -- are found without a difference below 0.
--- Assumes nothing.
 use mathlib.Core.Path.{ap₂, _∙_}
 use Prim.Native.Nat.{ℕ, _+_, _*_}
 use native.Mathlib.Omega.{arith}
 use borrow.Author.Needs.{needs}
-use Rattle.storing.proofs.EntriesStored.{packed-shut, packed-waits, packed-length, above, Parts, parts, packs}
+use Rattle.storing.proofs.EntryParts.{packed-shut, packed-waits, packed-length, above, FoundParts, parts, packs}
 use Rattle.storing.proofs.entry_of.Statement.{statement}
 use Rattle.storing.proofs.entry_of.Tie as tie
 
@@ -16,7 +15,7 @@ returns-2 : tie.Need-returns-2
 returns-2 c = packed-waits _ (c .if2 .taken)
 
 -- where a length stands, it has its parts
-parted : (c : tie.After-whole-of) → Parts (c .before .before .before .args .number) (c .whole-of .result)
+parted : (c : tie.After-whole-of) → FoundParts (c .before .before .before .args .number) (c .whole-of .result)
 parted c = parts _ _ (c .before .before .before .pre) (c .before .before .if1 .left) (c .before .if2 .left) (c .whole-of .ensures)
 
 sub-above : tie.Need-sub-above

@@ -1,43 +1,51 @@
--- `storing::store_table` meets its contract. The invariant: the entries of the rows before this one are stored.
--- Assumes nothing.
-use mathlib.Core.Path.{sym, _∙_}
-use Prim.Native.Nat.{_-_}
+-- `storing::store_table` meets its contract. The invariant: the entries of the rows before this one are written.
+use Prim.Native.Nat.{_*_, _-_, _≤_}
 use native.Mathlib.Omega.{arith}
-use Rattle.storing.proofs.Kept.{RowsStored}
-use Rattle.storing.proofs.EntriesStored.{rows-none, rows-all}
+use mathlib.Core.Path.{_∙_}
+use borrow.Author.Needs.{needs}
+use native.Mathlib.Nat.{mul-le-mul-right}
+use Rattle.entries.specs.Written.{Written}
+use Rattle.entries.proofs.Writing.{written-none, written-all}
+use Rattle.storing.specs.Entries.{entryOfCell}
+use Rattle.storing.proofs.EntryParts.{row-more}
 use Rattle.storing.proofs.store_table.Statement.{statement}
 use Rattle.storing.proofs.store_table.Tie as tie
 
 abbrev Inv-loop : tie.InvT-loop
-Inv-loop work width height table₀ row₀ table row = RowsStored width height work row table
+Inv-loop work width height table₀ row₀ table row = (row ≤ height) × Written (entryOfCell width work) 0 (row * width) table₀ table
 
 abbrev μ-loop : tie.MeasureT-loop
 μ-loop work width height table₀ row₀ table row = height - row
 
 loop-holds : tie.Need-loop-holds Inv-loop μ-loop
-loop-holds c = rows-none _ _ _ _ (c .before .before .pre .1)
+loop-holds c = (search needs, written-all _ _ _ _ _ _ (omega arith) (omega arith) (written-none _ _ _))
 
 store-row-requires : tie.Need-store-row-requires Inv-loop μ-loop
 store-row-requires c κs =
-    let p = c .before .before .before .before .before .pre in
-    (p .0, (c .before .loop-test .taken, c .before .before .loop .inv .stored))
+    let s : tie.Start Inv-loop μ-loop = search in
+    let t : tie.In-loop Inv-loop μ-loop = search in
+    (s .pre .0, (t .loop-test .taken, t .before .loop .inv .1 .size ∙ s .pre .1))
 
 add-row : tie.Need-add-row Inv-loop μ-loop
 add-row c =
-    let p = c .before .before .before .before .before .before .before .before .pre in
-    omega (arith, c .before .before .before .before .loop-test .taken, p .0 .high)
-
-loop-less : tie.Need-loop-less Inv-loop μ-loop
-loop-less c = omega (arith, c .before .before .before .before .loop-test .taken)
+    let s : tie.Start Inv-loop μ-loop = search in
+    let t : tie.In-loop Inv-loop μ-loop = search in
+    omega (arith, t .loop-test .taken, s .pre .0 .high)
 
 loop-again : tie.Need-loop-again Inv-loop μ-loop
-loop-again c = record { inside = omega (arith, c .before .before .before .before .loop-test .taken); stored = c .before .before .store-row .ensures }
+loop-again c =
+    let s : tie.Start Inv-loop μ-loop = search in
+    let t : tie.In-loop Inv-loop μ-loop = search in
+    let r : tie.After-store-row Inv-loop μ-loop = search in
+    (omega (arith, t .loop-test .taken), row-more _ (s .args .work .now) _ _ _ _ (t .before .loop .inv .1) (r .store-row .ensures))
 
 same-length : tie.Need-same-length Inv-loop μ-loop
-same-length c = c .before .loop .inv .stored .size ∙ sym (c .before .before .before .before .pre .1)
+same-length c = let l : tie.At-loop Inv-loop μ-loop = search in l .loop .inv .1 .size
 
 returns : tie.Need-returns Inv-loop μ-loop
-returns c = rows-all _ _ _ _ _ (c .before .loop .inv) (c .loop-test .left)
+returns c =
+    let l : tie.At-loop Inv-loop μ-loop = search in
+    written-all _ _ _ _ _ _ (mul-le-mul-right _ (l .loop .inv .0)) (mul-le-mul-right _ (c .loop-test .left)) (l .loop .inv .1)
 
 pub store-table-spec : {M : Type 1} → statement M
 store-table-spec =
@@ -48,7 +56,7 @@ store-table-spec =
     loop-holds
     store-row-requires
     add-row
-    loop-less
+    (λ c. search needs)
     loop-again
     same-length
     returns)

@@ -1,9 +1,9 @@
 -- `walker::in_width` meets its contract: the column is counted from one further, as the table's change is.
--- Assumes nothing.
 use native.Mathlib.Omega.{arith}
 use native.Mathlib.Nat.{mod-lt}
 use borrow.Author.Needs.{needs}
-use Rattle.walker.proofs.Past.{ReadOf, read-of, before-row, row-end}
+use Rattle.steps.proofs.Headings.{ReadOf, read-of}
+use Rattle.walker.proofs.Past.{before-row, row-end}
 use Rattle.walker.proofs.in_width.Statement.{statement}
 use Rattle.walker.proofs.in_width.Tie as tie
 

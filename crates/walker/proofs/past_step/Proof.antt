@@ -1,11 +1,10 @@
 -- `walker::past_step` meets its contract: the table's change is added, which is at most two columns and rows.
--- Assumes nothing.
 use native.Mathlib.Omega.{arith}
 use native.Mathlib.Nat.{mul-le-mul}
 use borrow.Author.Needs.{needs}
 use Prim.Native.Nat.{_*_, _≤_}
 use mathlib.Core.Path.{ap}
-use Rattle.walker.proofs.Past.{ReadOf, read-of}
+use Rattle.steps.proofs.Headings.{ReadOf, read-of}
 use Rattle.walker.proofs.past_step.Statement.{statement}
 use Rattle.walker.proofs.past_step.Tie as tie
 

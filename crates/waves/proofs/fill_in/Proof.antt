@@ -7,7 +7,7 @@ use lib.ListN.{length-set}
 use borrow.Author.Needs.{needs}
 use Rattle.offers.specs.Work.{largest, spot}
 use Rattle.loading.proofs.MapLoaded.{prefix-none}
-use Rattle.waves.proofs.WholeFill.{goal-on, ready, goals, storable, filled}
+use Rattle.waves.proofs.WholeFill.{goal-on, ready, goals, settled, filled}
 use Rattle.waves.proofs.fill_in.Statement.{statement}
 use Rattle.waves.proofs.fill_in.Tie as tie
 
@@ -60,7 +60,7 @@ store-table-requires c κs =
     let s : tie.Start = search in
     let l : tie.After-load-map = search in
     let w : tie.After-all-waves = search in
-    (storable _ _ _ (s .pre .1) _ (l .load-map .ensures) _ (w .all-waves .ensures), omega (arith, w .all-waves .kept .1, s .pre .1 .table))
+    (settled _ _ _ (s .pre .1) _ (l .load-map .ensures) _ (w .all-waves .ensures), omega (arith, w .all-waves .kept .1, s .pre .1 .table))
 
 same-length : tie.Need-same-length
 same-length c =
@@ -74,7 +74,8 @@ returns c =
     let l : tie.After-load-map = search in
     let w : tie.After-all-waves = search in
     let t : tie.After-store-table = search in
-    filled _ _ _ (s .pre .1) _ (l .load-map .ensures) _ (w .all-waves .ensures) _ (t .store-table .ensures)
+    filled _ _ _ (s .pre .1) _ (l .load-map .ensures) _ (w .all-waves .ensures) _ _ (t .store-table .ensures)
+    (omega (arith, w .all-waves .kept .1))
 
 pub fill-in-spec : {M : Type 1} → statement M
 fill-in-spec =

@@ -1,17 +1,17 @@
 -- `checking::window::load_row` meets its contract. The invariant: the columns passed are written.
--- Assumes nothing.
 use Prim.Native.Nat.{_+_, _-_, _≤_}
 use native.Mathlib.Omega.{arith}
 use borrow.Author.Needs.{needs}
 use Rattle.floor.specs.Floor.{mapOf}
 use Rattle.judging.specs.Number.{numberAt}
-use Rattle.checking.specs.Window.{Written}
-use Rattle.checking.proofs.Writing.{written-none, written-more, written-all}
+use Rattle.entries.specs.Written.{Written}
+use Rattle.entries.proofs.Writing.{written-none, written-more, written-all}
 use Rattle.checking.proofs.window.load_row.Statement.{statement}
 use Rattle.checking.proofs.window.load_row.Tie as tie
 
 abbrev Inv-loop : tie.InvT-loop
-Inv-loop x₀ from map table width height row column₀ x column = (column ≤ width) × Written (λ i. numberAt (mapOf width height map) table (i + 1) (row + 1)) from column x₀ x
+Inv-loop x₀ from map table width height row column₀ x column =
+    (column ≤ width) × Written (λ i. numberAt (mapOf width height map) table (i + 1) (row + 1)) from column x₀ x
 
 abbrev μ-loop : tie.MeasureT-loop
 μ-loop x₀ from map table width height row column₀ x column = width - column
@@ -19,29 +19,15 @@ abbrev μ-loop : tie.MeasureT-loop
 loop-holds : tie.Need-loop-holds Inv-loop μ-loop
 loop-holds c = (search needs, written-none _ _ _)
 
-number-at-requires : tie.Need-number-at-requires Inv-loop μ-loop
-number-at-requires c κs = search needs
-
-add-window : tie.Need-add-window Inv-loop μ-loop
-add-window c = search needs
-
-mul-window : tie.Need-mul-window Inv-loop μ-loop
-mul-window c = search needs
-
-element-write-window : tie.Need-element-write-window Inv-loop μ-loop
-element-write-window c = search needs
-
-add-column : tie.Need-add-column Inv-loop μ-loop
-add-column c = search needs
-
-loop-less : tie.Need-loop-less Inv-loop μ-loop
-loop-less c = search needs
-
 loop-again : tie.Need-loop-again Inv-loop μ-loop
-loop-again c = let l = c .before .before .loop in (search needs, written-more _ _ _ _ _ _ (omega (arith, l .inv .1 .size)) (c .number-at .ensures) (l .inv .1))
+loop-again c =
+    let l : tie.At-loop Inv-loop μ-loop = search in
+    (search needs, written-more _ _ _ _ _ _ (omega (arith, l .loop .inv .1 .size)) (c .number-at .ensures) (l .loop .inv .1))
 
 returns : tie.Need-returns Inv-loop μ-loop
-returns c = written-all _ _ _ _ _ _ (c .before .loop .inv .0) (c .loop-test .left) (c .before .loop .inv .1)
+returns c =
+    let l : tie.At-loop Inv-loop μ-loop = search in
+    written-all _ _ _ _ _ _ (l .loop .inv .0) (search needs) (l .loop .inv .1)
 
 pub load-row-spec : {M : Type 1} → statement M
 load-row-spec =
@@ -50,11 +36,11 @@ load-row-spec =
     Inv-loop
     μ-loop
     loop-holds
-    number-at-requires
-    add-window
-    mul-window
-    element-write-window
-    add-column
-    loop-less
+    (λ c κs. search needs)
+    (λ c. search needs)
+    (λ c. search needs)
+    (λ c. search needs)
+    (λ c. search needs)
+    (λ c. search needs)
     loop-again
     returns)

@@ -1,10 +1,9 @@
 -- `checking::window::next_row` meets its contract: below the last row there is nothing but walls.
--- Assumes nothing.
 use mathlib.Core.Path.{sym}
 use native.Mathlib.Omega.{arith}
 use borrow.Author.Needs.{needs}
 use Rattle.judging.proofs.CellNumbers.{south, number-off}
-use Rattle.checking.proofs.Writing.{written-as}
+use Rattle.entries.proofs.Writing.{written-as}
 use Rattle.checking.proofs.window.next_row.Statement.{statement}
 use Rattle.checking.proofs.window.next_row.Tie as tie
 

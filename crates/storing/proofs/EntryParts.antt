@@ -1,20 +1,19 @@
--- The work array's numbers as a table's entries, cell after cell.
--- Assumes nothing.
+-- The parts of the length that a number stands for, as the code finds them; and the table's entries, row after row.
 use mathlib.Core.Path.{_≡_, ap, ap₂, sym, subst, _∙_}
 use mathlib.Core.Logic.{_≢_}
 use mathlib.Core.List.{List}
 use Prim.Native.Nat.{ℕ, _+_, _-_, _*_, _/_, _%_, _≤_, _<_}
 use native.Mathlib.Omega.{arith}
-use native.Mathlib.Nat.{mul-le-mul, mul-le-mul-right, mod-eq-of-lt, div-eq-of-lt, add-zero, mul-add-mod-self-right, mul-add-div-right}
-use lib.ListN.{length, set, length-set}
+use native.Mathlib.Nat.{add-mul, mul-le-mul, mul-le-mul-right, mod-eq-of-lt, mul-add-mod-self-right}
+use lib.Arith.{digits-div, digits-mod}
 use Rattle.lengths.specs.declared.Length.{Length}
 use Rattle.lengths.proofs.Keys.{straightKey, diagonalKey, key, straightOf, diagonalOf, pair-back}
 use Rattle.entries.specs.Entry.{mark, pack}
-use Rattle.offers.specs.Work.{unreached, span, raise, atGoal, at, spot}
-use Rattle.storing.specs.Store.{keyOf, goalKey, entryOf, Proper, Keyed, Readable, Stored}
-use Rattle.offers.proofs.Changed.{each}
+use Rattle.entries.specs.Written.{Written}
+use Rattle.entries.proofs.Writing.{written-as, written-on}
+use Rattle.offers.specs.Work.{unreached, span, raise, atGoal}
+use Rattle.storing.specs.Entries.{keyOf, goalKey, entryOf, InWave, Keyed, Settled, entryIn, entryOfCell}
 use Rattle.storing.proofs.NumberKinds.{Kind, shut, waits, reached, kind}
-use Rattle.storing.proofs.Kept.{CellsStored, RowsStored}
 
 pub packed-shut : (v : ℕ) → v ≡ 0 → pack mark ≡ pack (entryOf v)
 packed-shut v e = by (kind v)
@@ -75,26 +74,26 @@ wave v = (v - atGoal) / span
 abbrev rest : ℕ → ℕ
 rest v = (v - atGoal) % span
 
-pub record Above (v : ℕ) : Type 0 where
+pub record OverGoal (v : ℕ) : Type 0 where
   pub from : atGoal ≤ v
   pub wave : v / span ≡ wave v + 1
   pub rest : v % span ≡ rest v + raise
 
-apart : (v : ℕ) → Proper v → atGoal ≤ v → Above v
+apart : (v : ℕ) → InWave v → atGoal ≤ v → OverGoal v
 apart v p h =
     let e : v / span ≡ wave v + 1 = omega (arith, p) in
     record { from = h; wave = e; rest = omega (arith, p, e) }
 
-pub above : (v : ℕ) → Readable v → v ≢ 0 → v < unreached → Above v
-above v r e f = let k = r .keyed (omega arith) f in apart v (k .proper) (omega (arith, k .sum, k .proper))
+pub above : (v : ℕ) → Settled v → v ≢ 0 → v < unreached → OverGoal v
+above v r e f = let k = r .keyed (omega arith) f in apart v (k .in-wave) (omega (arith, k .sum, k .in-wave))
 
 -- the parts of the key that a number stands for, as the code finds them; they can be packed
-pub record Parts (v m : ℕ) : Type 0 where
+pub record FoundParts (v m : ℕ) : Type 0 where
   pub diagonal : left (rest v) - m * straightKey ≡ diagonalOf (keyOf v - goalKey)
   pub straight : wave v + diagonalKey * (near (rest v) + m) ≡ straightOf (keyOf v - goalKey) + 8119 * rest v
   pub few : straightOf (keyOf v - goalKey) < 17000
 
-pub parts : (v m : ℕ) → Readable v → v ≢ 0 → v < unreached → m ≡ left (rest v) / straightKey → Parts v m
+pub parts : (v m : ℕ) → Settled v → v ≢ 0 → v < unreached → m ≡ left (rest v) / straightKey → FoundParts v m
 parts v m r e f is = record {
   diagonal = sym here;
   straight = even ∙ ap (λ (z : ℕ). z + 8119 * rest v) (sym there-straight);
@@ -105,16 +104,16 @@ parts v m r e f is = record {
     k = r .keyed (omega arith) f
 
     l : Length
-    l = k .length
+    l = k .size
 
     d : Divided (rest v) m
     d = divided (rest v) m (omega arith) is
 
-    a : Above v
+    a : OverGoal v
     a = above v r e f
 
     bounds : (l .diagonal < straightKey) × (l .straight < 17000)
-    bounds = omega (arith, k .sum, k .proper, r .below f)
+    bounds = omega (arith, k .sum, k .in-wave, r .below f)
 
     same : keyOf v - goalKey ≡ key l
     same = omega (arith, k .sum)
@@ -123,7 +122,7 @@ parts v m r e f is = record {
     parted = omega (arith, a .wave, a .rest)
 
     here : diagonalOf (keyOf v - goalKey) ≡ left (rest v) - m * straightKey
-    here = ap diagonalOf parted ∙ remains (wave v) (rest v) (near (rest v) + m) _ (omega (arith, a .rest, k .proper)) (d .less) (d .sum)
+    here = ap diagonalOf parted ∙ remains (wave v) (rest v) (near (rest v) + m) _ (omega (arith, a .rest, k .in-wave)) (d .less) (d .sum)
 
     there : diagonalOf (keyOf v - goalKey) ≡ l .diagonal
     there = ap diagonalOf same ∙ ap (λ (z : Length). z .diagonal) (pair-back l (bounds .0))
@@ -140,41 +139,21 @@ parts v m r e f is = record {
 pub packs : (s d : ℕ) → s < 17000 → d < 17000 → s * 65536 + d < 4294967296
 packs s d few less = omega arith
 
-module _ (w h : ℕ) (x : List ℕ) where
-  stored-more : (c r v : ℕ) (t : List ℕ) → c < w → r < h → Stored w h x (r * w + c) t → v ≡ pack (entryOf (at x (spot c r)))
-      → Stored w h x (r * w + (c + 1)) (set t (r * w + c) v)
-  stored-more c r v t p q i e =
-      let in-t : r * w + c < length t = omega (arith, i .size, mul-le-mul-right w q) in
-      let pos : 0 < w = omega arith in
-      let a : (r * w + c) % w ≡ c = mul-add-mod-self-right r w c ∙ mod-eq-of-lt p in
-      let b : (r * w + c) / w ≡ r = mul-add-div-right pos r c ∙ ap (λ (z : ℕ). r + z) (div-eq-of-lt p) ∙ add-zero r in
-      record {
-        size = length-set t (r * w + c) v ∙ i .size;
-        done =
-            each t (r * w + c) v in-t (λ y u. y < r * w + (c + 1) → u ≡ pack (entryOf (at x (spot (y % w) (y / w)))))
-            (λ k. e ∙ ap₂ (λ (m n : ℕ). pack (entryOf (at x (spot m n)))) (sym a) (sym b)) (λ y d k. i .done y (omega arith));
-      }
-
-  pub cells-none : (r : ℕ) (t : List ℕ) → Stored w h x (r * w) t → CellsStored w h x 0 r t
-  cells-none r t i = record { inside = omega arith; stored = let e : r * w ≡ r * w + 0 = omega arith in subst (λ (n : ℕ). Stored w h x n t) e i }
-
-  pub cells-more : (c r v : ℕ) (t : List ℕ) → CellsStored w h x c r t → c < w → r < h → v ≡ pack (entryOf (at x (spot c r)))
-      → CellsStored w h x (c + 1) r (set t (r * w + c) v)
-  cells-more c r v t i p q e = record { inside = omega arith; stored = stored-more c r v t p q (i .stored) e }
-
-  pub cells-all : (c r : ℕ) (t : List ℕ) → CellsStored w h x c r t → w ≤ c → Stored w h x ((r + 1) * w) t
-  cells-all c r t i p = let e : r * w + c ≡ (r + 1) * w = omega (arith, i .inside) in subst (λ (n : ℕ). Stored w h x n t) e (i .stored)
-
-  pub rows-none : (t : List ℕ) → length t ≡ h * w → RowsStored w h x 0 t
-  rows-none t e = record { inside = omega arith; stored = record { size = e; done = λ y k. absurd (omega arith) } }
-
-  pub rows-all : (r : ℕ) (t : List ℕ) → RowsStored w h x r t → h ≤ r → Stored w h x (h * w) t
-  rows-all r t i p = let e : r ≡ h = omega (arith, i .inside) in subst (λ (n : ℕ). Stored w h x (n * w) t) e (i .stored)
-
 -- an entry's place is in the table, and fits
-pub record Placed (w h c r : ℕ) : Type 0 where
+pub record InTable (w h c r : ℕ) : Type 0 where
   pub inside : r * w + c < h * w
   pub small : h * w ≤ 16384
 
-pub placed : (w h c r : ℕ) → w ≤ 128 → h ≤ 128 → c < w → r < h → Placed w h c r
-placed w h c r p q a b = record { inside = omega (arith, mul-le-mul-right w b); small = mul-le-mul q p }
+pub in-table : (w h c r : ℕ) → w ≤ 128 → h ≤ 128 → c < w → r < h → InTable w h c r
+in-table w h c r p q a b = record { inside = omega (arith, mul-le-mul-right w b); small = mul-le-mul q p }
+
+-- a row more of the table
+pub row-more :
+    (w : ℕ) (x : List ℕ) (r : ℕ) (s t u : List ℕ) → Written (entryOfCell w x) 0 (r * w) s t → Written (entryIn x r) (r * w) w t u
+    → Written (entryOfCell w x) 0 ((r + 1) * w) s u
+row-more w x r s t u before row =
+    let next : r * w + w ≡ (r + 1) * w = omega (arith, add-mul r 1 w) in
+    subst (λ (n : ℕ). Written (entryOfCell w x) 0 n s u) next
+    (written-on (entryOfCell w x) 0 (r * w) (r * w) w s t u (omega arith) before
+    (written-as (entryIn x r) (λ i. entryOfCell w x (r * w + i)) (r * w) w t u
+    (λ c h. ap₂ (λ (i j : ℕ). entryIn x i j) (sym (digits-div r h)) (sym (digits-mod r h))) row))

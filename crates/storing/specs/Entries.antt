@@ -1,10 +1,9 @@
 -- The work array's numbers as a table's entries.
--- Assumes nothing.
 use mathlib.Core.Path.{_≡_}
 use mathlib.Core.List.{List}
 use Prim.Native.Nat.{ℕ, suc, _+_, _-_, _*_, _/_, _%_, _≤_, _<_}
 use native.Mathlib.Decide.{decLe, ℕ-discrete}
-use lib.ListN.{getD, length}
+use lib.ListN.{length}
 use Rattle.lengths.specs.declared.Length.{Length}
 use Rattle.lengths.proofs.Keys.{straightKey, key, pair}
 use Rattle.entries.specs.Entry.{Entry, mark, long, pack}
@@ -28,29 +27,31 @@ unfoldable pub entryOf : ℕ → Entry
 entryOf v = entryBy v (ℕ-discrete v 0) (decLe (suc v) unreached)
 
 -- a number whose remainder is a place in its wave
-pub record Proper (v : ℕ) : Type 0 where
+pub record InWave (v : ℕ) : Type 0 where
   pub low : raise ≤ v % span
   pub high : v % span < raise + straightKey
 
 -- a number that stands for a length
 pub record Keyed (v : ℕ) : Type 0 where
-  pub length : Length
-  pub sum : keyOf v ≡ goalKey + key length
-  pub proper : Proper v
+  pub size : Length
+  pub sum : keyOf v ≡ goalKey + key size
+  pub in-wave : InWave v
 
 -- a number that the waves can leave
-pub record Readable (v : ℕ) : Type 0 where
+pub record Settled (v : ℕ) : Type 0 where
   pub keyed : 0 < v → v < unreached → Keyed v
   pub below : v < unreached → v < highest
 
 -- a work array of a floor of this width and height, as the waves leave it
-pub record Storable (width height : ℕ) (x : List ℕ) : Type 0 where
+pub record AllSettled (width height : ℕ) (x : List ℕ) : Type 0 where
   pub wide : width ≤ 128
   pub high : height ≤ 128
   pub tall : (height + 2) * stride ≤ length x
-  pub all : (z : ℕ) → Readable (at x z)
+  pub all : (z : ℕ) → Settled (at x z)
 
--- the entries of the cells below n are stored
-pub record Stored (width height : ℕ) (x : List ℕ) (n : ℕ) (t : List ℕ) : Type 0 where
-  pub size : length t ≡ height * width
-  pub done : (y : ℕ) → y < n → getD t y 0 ≡ pack (entryOf (at x (spot (y % width) (y / width))))
+-- the entry of the cell in a column and a row, and of the cell with a number, as the table has it
+abbrev pub entryIn : List ℕ → (row column : ℕ) → ℕ
+entryIn x row column = pack (entryOf (at x (spot column row)))
+
+abbrev pub entryOfCell : (width : ℕ) → List ℕ → ℕ → ℕ
+entryOfCell width x y = entryIn x (y / width) (y % width)
