@@ -11,7 +11,7 @@ fn say_number(label: &[u8], number: usize) {
 fn accepted(width: usize, height: usize, map: &[u8]) -> usize {
     match floor::accept(width, height, map) {
         floor::Accepted::Floor(_) => 0,
-        floor::Accepted::Refused(n) => n as usize,
+        floor::Accepted::Refused(refusal) => refusal.number as usize,
     }
 }
 

@@ -3,7 +3,7 @@ use mathlib.Core.Path.{_≡_}
 use mathlib.Core.List.{List}
 use Prim.Native.Nat.{ℕ, _≤_, _<_}
 use lib.ListN.{length, getD}
-use Rattle.calls.specs.CallTests.{Fitting}
+use Rattle.floor.specs.Inner.{Fitting}
 use Rattle.floor.specs.Floor.{Map, cellOf}
 use Rattle.steps.specs.Step.{stepsOf}
 use Rattle.steps.specs.Way.{Only}

@@ -2,14 +2,14 @@
 ghost use mathlib.Core.Path.{_≡_};
 ghost use Prim.Native.Nat.{_+_, _<_};
 ghost use lib.ListN.{length};
-ghost use Rattle.calls.specs.CallTests.{Fitting};
+ghost use Rattle.floor.specs.Inner.{Fitting};
 ghost use Rattle.floor.specs.Floor.{mapOf};
 ghost use Rattle.judging.specs.Number.{notMark, openNumber, numberOf, numberAt};
 use entries::MARK;
-use judging::cell_numbers::DIAGONAL;
 use judging::cell_numbers::NONE;
-use judging::cell_numbers::STRAIGHT;
 use judging::cell_numbers::WALL;
+use lengths::DIAGONAL_KEY;
+use lengths::STRAIGHT_KEY;
 
 // 1 for an entry that is not the mark, else 0.
 fn not_mark(entry: u32) -> u32
@@ -28,7 +28,7 @@ fn open_number(entry: u32) -> u32
     let straight = entry / 65536;
     let diagonal = entry % 65536;
     if straight / 16384 + diagonal / 16384 == 0 {
-        return STRAIGHT * straight + DIAGONAL * diagonal;
+        return STRAIGHT_KEY * straight + DIAGONAL_KEY * diagonal;
     }
     NONE + not_mark(entry)
 }
@@ -56,6 +56,6 @@ pub fn number_at(
     requires { ⌜ (column < width) × (row < height) ⌝ }
     ensures { λ r. ⌜ r ≡ numberAt (mapOf width height (now (map .entry))) (now (table .entry)) (column + 1) (row + 1) ⌝ }
 {
-    let blocked = floor::tests::blocked_at(width, height, map, column, row);
+    let blocked = floor::cells::blocked_at(width, height, map, column, row);
     number_of(blocked, table[row * width + column])
 }

@@ -1,5 +1,5 @@
-// The inner pass of checking a length table: the lowest cell whose entry is malformed, or not what its neighbours make it. One pass
-// over the cells, in cell order, through a window of three rows of numbers, one number for each cell.
+// The inner pass of checking a length table: the lowest cell whose entry is malformed, or not what its neighbours make
+// it. One pass over the cells, in cell order, through a window of three rows of numbers, one number for each cell.
 ghost use Prim.Native.Nat.{_<_};
 ghost use lib.ListN.{length};
 ghost use Rattle.floor.specs.Floor.{mapOf, cells};
@@ -14,7 +14,8 @@ use judging::cell_numbers::WALL;
 mod cell_numbers;
 mod window;
 
-// The first column of a row of the floor whose cell is not right; the window shows the row above and the row, and then the next one too.
+// The first column of a row of the floor whose cell is not right; the window shows the row above and the row, and then
+// the next one too.
 fn judge_next(
     window: &mut [u32; 390],
     width: usize,
@@ -59,7 +60,8 @@ fn judge_rows(
     height * width
 }
 
-// The lowest cell whose entry is malformed or not what its neighbours make it, or the number of cells where there is none.
+// The lowest cell whose entry is malformed or not what its neighbours make it, or the number of cells where there is
+// none.
 pub fn first_wrong(width: usize, height: usize, map: &[u8], goal: usize, table: &[u32]) -> usize
     requires { ⌜ Ready (mapOf width height (now map)) goal (length (now table)) ⌝ }
     ensures { λ r. ⌜ Judged (Right (stepsOf (mapOf width height (now (map .entry)))) (Only goal) (now (table .entry))) (cells (mapOf width height (now (map .entry)))) r ⌝ }

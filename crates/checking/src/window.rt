@@ -1,5 +1,5 @@
-// The window that goes down the floor: three rows of numbers, each 130 wide, with a border at each end of a row. Column c of its
-// row i stands at i * 130 + c + 1.
+// The window that goes down the floor: three rows of numbers, each 130 wide, with a border at each end of a row. Column
+// c of its row i stands at i * 130 + c + 1.
 ghost use mathlib.Core.Path.{_≡_};
 ghost use Prim.Native.Nat.{_+_, _≤_, _<_};
 ghost use lib.ListN.{getD, length};

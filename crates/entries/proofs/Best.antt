@@ -1,5 +1,4 @@
 -- What the neighbours make a cell, computed: the least of the headings' offers.
--- Assumes nothing.
 use mathlib.Core.Path.{_≡_, refl, ap, sym, subst, _∙_}
 use mathlib.Core.Logic.{_⊎_, inl, inr}
 use mathlib.Core.Bool.{Bool, true, false, not}
@@ -7,7 +6,7 @@ use lib.Dec.{T as Holds}
 use Prim.Native.Nat.{ℕ, zero, suc, _%_, _<_}
 use native.Mathlib.Omega.{arith}
 use native.Mathlib.Decide.{ℕ-discrete}
-use Rattle.given.specs.Given.{pick}
+use Rattle.given.specs.Bools.{pick}
 use Rattle.lengths.specs.declared.Length.{Length}
 use Rattle.lengths.specs.Order.{zeroLength, _⊕_, _⊑_, shorter}
 use Rattle.lengths.proofs.Order.{_⊏_, ⊑-refl, ⊑-trans, ⊏-⊑, ⊑-antisym, shorter-yes, shorter-no}
@@ -26,23 +25,23 @@ abbrev pub graph : ℕ → (ℕ → ℕ → Lead) → Graph
 graph k lead = record { Step = λ h x y. (h < k) × (lead h x ≡ To y); weight = weight; one = λ h. one-step (h % 2) }
 
 -- the mark is above every length
-abbrev pub AtMost : Entry → Entry → Type 0
-AtMost e mark = Unit {0}
-AtMost mark (long b) = ⊥
-AtMost (long a) (long b) = a ⊑ b
+abbrev pub NotAbove : Entry → Entry → Type 0
+NotAbove e mark = Unit {0}
+NotAbove mark (long b) = ⊥
+NotAbove (long a) (long b) = a ⊑ b
 
-at-most-refl : (e : Entry) → AtMost e e
+at-most-refl : (e : Entry) → NotAbove e e
 at-most-refl mark = tt
 at-most-refl (long a) = ⊑-refl a
 
-pub at-most-trans : (e f g : Entry) → AtMost e f → AtMost f g → AtMost e g
+pub at-most-trans : (e f g : Entry) → NotAbove e f → NotAbove f g → NotAbove e g
 at-most-trans e f mark p q = tt
 at-most-trans e mark (long c) p q = absurd q
 at-most-trans mark (long b) (long c) p q = absurd p
 at-most-trans (long a) (long b) (long c) p q = ⊑-trans p q
 
 abbrev pub IsLesser : Entry → Entry → Entry → Type 0
-IsLesser e f r = AtMost r e × AtMost r f × ((r ≡ e) ⊎ (r ≡ f))
+IsLesser e f r = NotAbove r e × NotAbove r f × ((r ≡ e) ⊎ (r ≡ f))
 
 picked : (t : Bool) (a b : Length) → (Holds t → b ⊏ a) → (Holds (not t) → a ⊑ b) → IsLesser (long a) (long b) (pick t (long b) (long a))
 picked true a b p q = (⊏-⊑ (p tt), ⊑-refl b, inr refl)
@@ -57,15 +56,15 @@ module _ (lead : ℕ → ℕ → Lead) (T : ℕ → Entry) (x : ℕ) where
   abbrev pub offered : ℕ → Entry
   offered h = offer T (weight h) (lead h x)
 
-  pub best-least : (k h : ℕ) → h < k → AtMost (best lead T x k) (offered h)
+  pub best-least : (k h : ℕ) → h < k → NotAbove (best lead T x k) (offered h)
   best-least zero h b = absurd (omega arith)
   best-least (suc k) h b = by (ℕ-discrete h k) (λ c. best-least k h c)
     where
       l : IsLesser (best lead T x k) (offered k) (best lead T x (suc k))
       l = lesser-is (best lead T x k) (offered k)
 
-      by : Dec (h ≡ k) → (h < k → AtMost (best lead T x k) (offered h)) → AtMost (best lead T x (suc k)) (offered h)
-      by (yes e) ih = subst (λ (z : ℕ). AtMost (best lead T x (suc k)) (offered z)) (sym e) (l .1)
+      by : Dec (h ≡ k) → (h < k → NotAbove (best lead T x k) (offered h)) → NotAbove (best lead T x (suc k)) (offered h)
+      by (yes e) ih = subst (λ (z : ℕ). NotAbove (best lead T x (suc k)) (offered z)) (sym e) (l .1)
       by (no e) ih = at-most-trans (best lead T x (suc k)) (best lead T x k) (offered h) (l .0) (ih (omega arith))
 
   pub best-some : (k : ℕ) → (best lead T x k ≡ mark) ⊎ ((h : ℕ) × (h < k) × (best lead T x k ≡ offered h))
@@ -91,11 +90,12 @@ module _ (lead : ℕ → ℕ → Lead) (T : ℕ → Entry) (x : ℕ) where
       by (long n) q r = (y, n, refl, q, long-inj r)
 
   best-mark : (k : ℕ) → best lead T x k ≡ mark → Least (graph k lead) T x mark
-  best-mark k p h y s = by (T y) refl (subst (λ (m : Lead). AtMost mark (offer T (weight h) m)) (s .1) (subst (λ (e : Entry). AtMost e (offered h)) p (best-least k h (s .0))))
+  best-mark k p h y s = by (T y) refl (subst (λ (m : Lead). NotAbove mark (offer T (weight h) m)) (s .1)
+      (subst (λ (e : Entry). NotAbove e (offered h)) p (best-least k h (s .0))))
     where
-      by : (e : Entry) → T y ≡ e → AtMost mark (further (T y) (weight h)) → T y ≡ mark
+      by : (e : Entry) → T y ≡ e → NotAbove mark (further (T y) (weight h)) → T y ≡ mark
       by mark q r = q
-      by (long n) q r = absurd (subst (λ (e : Entry). AtMost mark (further e (weight h))) q r)
+      by (long n) q r = absurd (subst (λ (e : Entry). NotAbove mark (further e (weight h))) q r)
 
   best-len : (k : ℕ) (l : Length) → best lead T x k ≡ long l → Least (graph k lead) T x (long l)
   best-len k l p = (some (best-some k), all)
@@ -109,9 +109,9 @@ module _ (lead : ℕ → ℕ → Lead) (T : ℕ → Entry) (x : ℕ) where
 
       all : (h y : ℕ) (m : Length) → (h < k) × (lead h x ≡ To y) → T y ≡ long m → l ⊑ m ⊕ weight h
       all h y m s q =
-          subst (λ (e : Entry). AtMost (long l) (further e (weight h))) q
-          (subst (λ (v : Lead). AtMost (long l) (offer T (weight h) v)) (s .1)
-          (subst (λ (e : Entry). AtMost e (offered h)) p (best-least k h (s .0))))
+          subst (λ (e : Entry). NotAbove (long l) (further e (weight h))) q
+          (subst (λ (v : Lead). NotAbove (long l) (offer T (weight h) v)) (s .1)
+          (subst (λ (e : Entry). NotAbove e (offered h)) p (best-least k h (s .0))))
 
   pub best-is : (k : ℕ) (e : Entry) → best lead T x k ≡ e → Least (graph k lead) T x e
   best-is k mark p = best-mark k p

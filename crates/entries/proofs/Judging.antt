@@ -1,5 +1,5 @@
--- Every cell is right, by the check, exactly if the table is filled: over any set of permitted steps on n cells, n at most 16,384, and any set of goal cells.
--- Assumes nothing.
+-- Every cell is right, by the check, exactly if the table is filled: over any set of permitted steps on n cells, n at
+-- most 16,384, and any set of goal cells.
 use mathlib.Core.Path.{_≡_, ap, sym, subst, _∙_}
 use mathlib.Core.Bool.{false}
 use mathlib.Core.List.{List}
@@ -63,7 +63,12 @@ module _ (G : Graph) (Goal : ℕ → Type 0) (goal? : (x : ℕ) → Dec (Goal x)
   pub right-filled : ((x : ℕ) → x < n → Right G Goal t x) → Filled G Goal n t
   right-filled all = record {
     size = size;
-    entries = λ x h. record { what = entryAt t x; says = sound G Goal goal? (entryAt t) (rule all) x; same = sym (pack-read (getD t x 4294967295) (all x h .formed)) };
+    entries = λ x h. record {
+      what = entryAt t x;
+      says = sound G Goal goal? (entryAt t) (rule all) x;
+      same = sym
+          (pack-read (getD t x 4294967295) (all x h .formed));
+    };
   }
 
   -- what a filled table's number says is what it packs

@@ -1,7 +1,7 @@
--- A table in which each cell is what its neighbours make it is the table of shortest lengths, and the other way round, over any set of
--- permitted steps and any set of goal cells. One way: no way is shorter than its first cell's entry, by induction on the way (`below`), and an entry is
--- the length of a way, by induction on its steps, which fall by exactly one (`found`). The other way: over a step, shortest lengths are a step apart.
--- Assumes nothing.
+-- A table in which each cell is what its neighbours make it is the table of shortest lengths, and the other way round,
+-- over any set of permitted steps and any set of goal cells. One way: no way is shorter than its first cell's entry, by
+-- induction on the way (`below`), and an entry is the length of a way, by induction on its steps, which fall by exactly
+-- one (`found`). The other way: over a step, shortest lengths are a step apart.
 use mathlib.Core.Path.{_≡_, refl, ap, sym, subst, _∙_}
 use Prim.Native.Nat.{ℕ, zero, suc, _≤_, _<_}
 use native.Mathlib.Omega.{arith}
@@ -58,7 +58,11 @@ module _ (G : Graph) (Goal : ℕ → Type 0) (goal? : (x : ℕ) → Dec (Goal x)
       where
         by : (e : Entry) → T x ≡ e → Says G Goal x e
         by mark p = λ l r. let b = below (r .1) (r .2) in no-mark (sym (b .1) ∙ p)
-        by (long l) p = record { way = found (steps l) x l p (le-refl (steps l)); least = λ m r. let b = below (r .1) (r .2) in subst (λ (k : Length). k ⊑ m) (long-inj (sym (b .1) ∙ p)) (b .2) }
+        by (long l) p = record {
+          way = found (steps l) x l p (le-refl (steps l));
+          least = λ m r. let b = below (r .1) (r .2) in subst
+              (λ (k : Length). k ⊑ m) (long-inj (sym (b .1) ∙ p)) (b .2);
+        }
 
   -- the other way round
   module _ (right : (x : ℕ) → Says G Goal x (T x)) where

@@ -1,5 +1,4 @@
 -- Two filled tables are equal: what an entry says of its cell is told by the cell.
--- Assumes nothing.
 use mathlib.Core.Path.{_≡_, refl, ap, sym, _∙_}
 use mathlib.Core.List.{List}
 use Prim.Native.Nat.{ℕ, _<_}

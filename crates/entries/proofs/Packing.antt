@@ -1,5 +1,5 @@
--- Numbers and entries: a well-formed number is its entry, packed; a number packs one entry only, if its parts are small.
--- Assumes nothing.
+-- Numbers and entries: a well-formed number is its entry, packed; a number packs one entry only, if its parts are
+-- small.
 use mathlib.Core.Path.{_≡_, refl, ap, sym, subst, _∙_}
 use mathlib.Core.Logic.{_⊎_, inl, inr}
 use mathlib.Core.Bool.{Bool, true, false, not}
@@ -7,13 +7,12 @@ use Prim.Native.Nat.{ℕ, _≤_, _<_}
 use native.Mathlib.Omega.{arith}
 use lib.Dec.{eqb}
 use borrow.Author.Tests.{eqb-true}
-use Rattle.given.specs.Given.{pick}
+use Rattle.given.specs.Bools.{pick, both}
 use Rattle.lengths.specs.declared.Length.{Length}
-use Rattle.lengths.specs.Answers.{partAbove}
+use Rattle.lengths.specs.Answers.{wayPart, partAbove}
 use Rattle.lengths.specs.Inner.{Within}
 use Rattle.lengths.proofs.Order.{length-ext}
 use Rattle.lengths.proofs.Tested.{small-parts, parts-small}
-use Rattle.floor.specs.Floor.{both}
 use Rattle.entries.specs.Entry.{mark, long, pack, partsOf, malformed, read}
 use Rattle.entries.proofs.Neighbours.{no-mark, long-inj}
 
@@ -28,7 +27,7 @@ read-mark = refl
 -- what a number says, if its parts are small
 pub read-small : (v : ℕ) → Within (partsOf v) → read v ≡ long (partsOf v)
 unfolding read
-read-small v w = rw (parts-small (partsOf v) w)
+read-small v w = rw (parts-small wayPart (partsOf v) w)
 
 pub read-long : (a : Length) → Within a → read (pack (long a)) ≡ long a
 read-long a w =
@@ -42,7 +41,7 @@ by-parts false v a p = (refl, long-inj p)
 
 pub said-small : (v : ℕ) (a : Length) → read v ≡ long a → Within a
 unfolding read
-said-small v a p = let (t, e) = by-parts (partAbove (partsOf v)) v a p in subst Within e (small-parts (partsOf v) t)
+said-small v a p = let (t, e) = by-parts (partAbove wayPart (partsOf v)) v a p in subst Within e (small-parts wayPart (partsOf v) t)
 
 -- a number that is not malformed is the mark, or has small parts
 formed-by : (s t : Bool) → both (not s) t ≡ false → (s ≡ true) ⊎ (t ≡ false)
@@ -50,11 +49,11 @@ formed-by true t e = inl refl
 formed-by false t e = inr e
 
 pub formed : (v : ℕ) → malformed v ≡ false → (v ≡ 4294967295) ⊎ Within (partsOf v)
-formed v e = by (formed-by (eqb v 4294967295) (partAbove (partsOf v)) e)
+formed v e = by (formed-by (eqb v 4294967295) (partAbove wayPart (partsOf v)) e)
   where
-    by : (eqb v 4294967295 ≡ true) ⊎ (partAbove (partsOf v) ≡ false) → (v ≡ 4294967295) ⊎ Within (partsOf v)
+    by : (eqb v 4294967295 ≡ true) ⊎ (partAbove wayPart (partsOf v) ≡ false) → (v ≡ 4294967295) ⊎ Within (partsOf v)
     by (inl p) = inl (eqb-true v 4294967295 p)
-    by (inr p) = inr (small-parts (partsOf v) p)
+    by (inr p) = inr (small-parts wayPart (partsOf v) p)
 
 -- and such a number is what it says, packed
 pub pack-read : (v : ℕ) → malformed v ≡ false → pack (read v) ≡ v
@@ -75,7 +74,7 @@ both-false false = refl
 pub long-formed : (a : Length) → Within a → malformed (pack (long a)) ≡ false
 long-formed a w =
     let e = parts-pack a (omega (arith, w .straight)) (omega (arith, w .diagonal)) in
-    ap (both (not (eqb (pack (long a)) 4294967295))) (parts-small (partsOf (pack (long a))) (subst Within (sym e) w))
+    ap (both (not (eqb (pack (long a)) 4294967295))) (parts-small wayPart (partsOf (pack (long a))) (subst Within (sym e) w))
     ∙ both-false (not (eqb (pack (long a)) 4294967295))
 
 -- a well-formed number that packs a length, though its parts may pass the limit by one, says that length

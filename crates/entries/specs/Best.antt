@@ -1,8 +1,8 @@
--- What the neighbours make a cell, computed: the least of the headings' offers. That it is `Made` is proved in proofs/Best.
--- Assumes nothing.
+-- What the neighbours make a cell, computed: the least of the headings' offers. That it is `Made` is proved in
+-- proofs/Best.
 use mathlib.Core.Bool.{Bool}
 use Prim.Native.Nat.{ℕ, zero, suc}
-use Rattle.given.specs.Given.{pick}
+use Rattle.given.specs.Bools.{pick}
 use Rattle.lengths.specs.declared.Length.{Length}
 use Rattle.lengths.specs.Order.{zeroLength, _⊕_, shorter}
 use Rattle.steps.specs.declared.Lead.{Lead}

@@ -1,14 +1,12 @@
 -- Document 01, "Table": one 32-bit number a cell.
--- Assumes nothing.
 use mathlib.Core.Bool.{Bool, not}
 use mathlib.Core.List.{List}
 use Prim.Native.Nat.{ℕ, _+_, _*_, _/_, _%_}
 use lib.Dec.{eqb}
 use lib.ListN.{getD}
-use Rattle.given.specs.Given.{pick}
+use Rattle.given.specs.Bools.{pick, both}
 use Rattle.lengths.specs.declared.Length.{Length}
-use Rattle.lengths.specs.Answers.{partAbove}
-use Rattle.floor.specs.Floor.{both}
+use Rattle.lengths.specs.Answers.{wayPart, partAbove}
 
 -- what an entry says: the mark, or how long a way is
 pub data Entry : Type 0 where
@@ -26,11 +24,11 @@ partsOf v = record { straight = v / 65536; diagonal = v % 65536 }
 
 -- an entry that is not the mark and has a part above 16,383 is malformed
 abbrev pub malformed : ℕ → Bool
-malformed v = both (not (eqb v 4294967295)) (partAbove (partsOf v))
+malformed v = both (not (eqb v 4294967295)) (partAbove wayPart (partsOf v))
 
 -- what a number says to its neighbours: a length, or, as the mark and a malformed entry are left out, nothing
 unfoldable pub read : ℕ → Entry
-read v = pick (partAbove (partsOf v)) mark (long (partsOf v))
+read v = pick (partAbove wayPart (partsOf v)) mark (long (partsOf v))
 
 -- the entry of a cell
 abbrev pub entryAt : List ℕ → ℕ → Entry

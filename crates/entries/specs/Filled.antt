@@ -1,5 +1,4 @@
 -- Document 01, "Table": each entry of a filled table is the shortest length from that cell to the goal, or the mark.
--- Assumes nothing.
 use mathlib.Core.Path.{_≡_}
 use mathlib.Core.List.{List}
 use Prim.Native.Nat.{ℕ, _<_}
@@ -8,7 +7,8 @@ use Rattle.lengths.specs.declared.Length.{Length}
 use Rattle.steps.specs.Way.{Graph, Reach, Shortest}
 use Rattle.entries.specs.Entry.{Entry, mark, long, pack}
 
--- what an entry says of its cell: the shortest length; or, with the mark, that there is no way, as there is none from a blocked cell
+-- what an entry says of its cell: the shortest length; or, with the mark, that there is no way, as there is none from a
+-- blocked cell
 abbrev pub Says : (G : Graph) (Goal : ℕ → Type 0) → ℕ → Entry → Type 0
 Says G Goal x mark = (l : Length) → ¬ Reach G Goal x l
 Says G Goal x (long l) = Shortest G Goal x l

@@ -1,5 +1,4 @@
 -- Document 01, "Table": what the neighbours make a cell, and which cell the check names.
--- Assumes nothing.
 use mathlib.Core.Path.{_≡_}
 use mathlib.Core.Bool.{false}
 use mathlib.Core.List.{List}
@@ -10,7 +9,8 @@ use Rattle.lengths.specs.Order.{zeroLength, _⊕_, _⊑_}
 use Rattle.steps.specs.Way.{Graph}
 use Rattle.entries.specs.Entry.{Entry, mark, long, pack, malformed, entryAt}
 
--- the least of neighbour's entry plus the step over the permitted steps, neighbours that say nothing left out; with none remaining, the mark
+-- the least of neighbour's entry plus the step over the permitted steps, neighbours that say nothing left out; with
+-- none remaining, the mark
 abbrev pub Least : (G : Graph) → (ℕ → Entry) → ℕ → Entry → Type 0
 Least G T x mark = (h y : ℕ) → G .Step h x y → T y ≡ mark
 Least G T x (long l) =
@@ -29,7 +29,8 @@ pub record Right (G : Graph) (Goal : ℕ → Type 0) (t : List ℕ) (x : ℕ) : 
   pub made : Made G Goal (entryAt t) x what
   pub same : getD t x 4294967295 ≡ pack what
 
--- the check names the lowest cell number whose entry differs: r is the lowest number below n that is not right, or n where all are right
+-- the check names the lowest cell number whose entry differs: r is the lowest number below n that is not right, or n
+-- where all are right
 pub record Judged (Right : ℕ → Type 0) (n r : ℕ) : Type 0 where
   pub within : r ≤ n
   pub before : (y : ℕ) → y < r → Right y

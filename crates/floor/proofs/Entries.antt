@@ -1,13 +1,12 @@
 -- A rule of a table of any element, proved at all of its entries by one test that is computed over the whole table.
--- Assumes nothing.
 use mathlib.Core.Path.{_≡_}
 use mathlib.Core.Bool.{Bool, true}
 use mathlib.Core.List.{List, [], _∷_}
 use Prim.Native.Nat.{ℕ, zero, suc, _<_}
 use native.Mathlib.Nat.{le-of-suc-le-suc, not-suc-le-zero}
 use lib.ListN.{length, getD}
-use Rattle.floor.specs.Floor.{both}
-use Rattle.floor.proofs.Joined.{both-true}
+use Rattle.given.specs.Bools.{both}
+use Rattle.given.proofs.Bools.{both-true}
 
 -- the test passes at each entry and its place
 abbrev pub every : {A : Type 0} → (ℕ → A → Bool) → List A → Bool

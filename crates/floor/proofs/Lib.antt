@@ -1,7 +1,5 @@
-pub mod Joined
 pub mod Entries
 pub mod Reading
-pub mod Padding
+pub mod Masks
 pub mod Tested
-pub mod WaysOut
 pub mod Unique

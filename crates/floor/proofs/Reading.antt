@@ -1,5 +1,4 @@
 -- Reading a cell: its byte lies in the map, and the bit that is read says whether it is blocked.
--- Assumes nothing.
 use mathlib.Core.Path.{_≡_, sym, subst, ap}
 use mathlib.Core.Bool.{true, not}
 use Prim.Native.Nat.{ℕ, _+_, _*_, _/_, _%_, _^_, _≤_, _<_}
@@ -12,7 +11,7 @@ use lib.Dec.{ltb, eqb}
 use lib.ListN.{length, getD}
 use Rattle.floor.specs.Floor.{Map, bytesPerRow, blocked, open?}
 use Rattle.floor.specs.Inner.{Sound}
-use Rattle.floor.proofs.Joined.{both-true}
+use Rattle.given.proofs.Bools.{both-true}
 
 -- a floor's sides are small, so that no product of two numbers up to 128 wraps
 pub small : (a b : ℕ) → a ≤ 128 → b ≤ 128 → a * b ≤ 16384

@@ -1,17 +1,16 @@
 -- What accepting a floor gives back, by the numbers of document 01.
--- Assumes nothing.
 use mathlib.Core.Path.{_≡_}
 use mathlib.Core.List.{[], _∷_}
-use Rattle.given.specs.Given.{Given, refusal, done, Answered}
+use Rattle.given.specs.Refusing.{Given, done, refused, Answered}
 use Rattle.floor.specs.declared.Accepted.{Accepted}
 use Rattle.floor.specs.declared.Accepted.the-variants as accepted
-use Rattle.floor.specs.Floor.{Map}
-use Rattle.floor.specs.Refusals.{floorRefused}
+use Rattle.floor.specs.Floor.{Map, largestSide}
+use Rattle.floor.specs.Tests.{floorTested}
 
 -- an accepted floor is given back as its sides
 abbrev pub acceptedGives : Accepted → Given
 acceptedGives (accepted.Floor s) = done (s .width ∷ s .height ∷ [])
-acceptedGives (accepted.Refused n) = refusal n
+acceptedGives (accepted.Refused f) = refused f
 
-abbrev pub Accepts : Map → Given → Type 0
-Accepts m = Answered (floorRefused m) (Unit {0}) (λ g. g ≡ done (m .width ∷ m .height ∷ []))
+abbrev pub Accepts : Map → Accepted → Type 0
+Accepts m r = Answered (floorTested largestSide m) (Unit {0}) (λ g. g ≡ done (m .width ∷ m .height ∷ [])) (acceptedGives r)

@@ -1,10 +1,14 @@
 -- Document 01, "Floor": the map, its cells, and which of them are open.
--- Assumes nothing.
-use mathlib.Core.Bool.{Bool, true, false, not}
+use mathlib.Core.Bool.{Bool, not}
 use mathlib.Core.List.{List}
 use Prim.Native.Nat.{ℕ, _+_, _*_, _/_, _%_, _^_}
 use lib.Dec.{T, ltb, eqb}
 use lib.ListN.{getD}
+use Rattle.given.specs.Bools.{both}
+
+-- a floor has at most 128 columns and 128 rows
+abbrev pub largestSide : ℕ
+largestSide = 128
 
 -- a floor's width and height, and the bytes of its map
 pub record Map : Type 0 where
@@ -27,10 +31,6 @@ bit k byte = byte / 2 ^ k % 2
 unfoldable pub blocked : Map → ℕ → ℕ → Bool
 blocked m column row = eqb (bit (column % 8) (getD (m .bytes) (row * bytesPerRow (m .width) + column / 8) 0)) 1
 
-abbrev pub both : Bool → Bool → Bool
-both true b = b
-both false b = false
-
 -- open: on the floor, that is below width and height, and not blocked
 unfoldable pub open? : Map → ℕ → ℕ → Bool
 open? m column row = both (ltb column (m .width)) (both (ltb row (m .height)) (not (blocked m column row)))
@@ -44,3 +44,14 @@ cellOf m column row = row * m .width + column
 
 abbrev pub cells : Map → ℕ
 cells m = m .height * m .width
+
+-- a column and a row
+pub record Spot : Type 0 where
+  pub column : ℕ
+  pub row : ℕ
+
+abbrev pub spotOf : ℕ → ℕ → Spot
+spotOf column row = record { column = column; row = row }
+
+abbrev pub spotCell : Map → Spot → ℕ
+spotCell m s = cellOf m (s .column) (s .row)

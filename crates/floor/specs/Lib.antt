@@ -1,5 +1,5 @@
 pub mod Floor
 pub mod Refusals
+pub mod Tests
 pub mod Answers
 pub mod Inner
-pub mod Calls

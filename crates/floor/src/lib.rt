@@ -1,8 +1,15 @@
-// The floor: accepting one, reading its cells, and the tests of places and cells.
+// The floor: accepting one, reading its cells, and the tests of floors and places.
 ghost use Rattle.floor.specs.Floor.{mapOf};
-ghost use Rattle.floor.specs.Answers.{acceptedGives, Accepts};
+ghost use Rattle.floor.specs.Answers.{Accepts};
+use given::Refusal;
+use given::Tested;
 
-pub mod tests;
+pub mod cells;
+pub mod links;
+mod padding;
+
+// The most columns, and the most rows, of a floor.
+pub const LARGEST_SIDE: usize = 128;
 
 // A floor's width and height, 1 to 128 each.
 pub struct Sides {
@@ -10,36 +17,19 @@ pub struct Sides {
     pub height: usize,
 }
 
-// What accepting a floor answers: its sides, or the refusal's number.
+// What accepting a floor answers: its sides, or the refusal.
 pub enum Accepted {
     Floor(Sides),
-    Refused(u8),
-}
-
-// What a test answers.
-pub enum Test {
-    Passed,
-    Failed,
-}
-
-// What the test of a place answers: its cell's number, or that it is off the floor.
-pub enum Place {
-    On(usize),
-    Off,
+    Refused(Refusal),
 }
 
 // Accepting a floor: 1, 2, 3, in this order.
 pub fn accept(width: usize, height: usize, map: &[u8]) -> Accepted
-    ensures { λ r. ⌜ Accepts (mapOf width height (now (map .entry))) (acceptedGives r) ⌝ }
+    ensures { λ r. ⌜ Accepts (mapOf width height (now (map .entry))) r ⌝ }
 {
-    let Test::Passed = tests::test_sides(width, height) else {
-        return Accepted::Refused(1);
-    };
-    let Test::Passed = tests::test_length(width, height, map) else {
-        return Accepted::Refused(2);
-    };
-    let Test::Passed = tests::test_padding(width, height, map) else {
-        return Accepted::Refused(3);
+    let tested = links::test_floor(LARGEST_SIDE, width, height, map);
+    let Tested::Passed = tested else {
+        return Accepted::Refused(given::refusal_of(tested));
     };
     Accepted::Floor(Sides { width, height })
 }

@@ -1,2 +1,2 @@
-pub mod Picked
-pub mod Answering
+pub mod Bools
+pub mod Refusals

@@ -1,33 +1,14 @@
--- No second struct, table or leg buffer meets the contract of an exported function, each as the checker reads it.
--- Assumes nothing.
-use mathlib.Core.Path.{_≡_, refl, sym, _∙_, ap}
-use mathlib.Core.List.{List, [], _∷_}
-use Prim.Native.Nat.{ℕ}
-use lib.ListN.{getD}
+-- No second struct, and no second contents of a buffer, meets the contract of an exported function, as the checker
+-- reads it: what a struct shows is one answer, by the uniqueness of its Rattle function.
+use mathlib.Core.Path.{_≡_, sym, _∙_, ap}
 use denote.Ref.{now}
-use Rattle.given.specs.Given.{Given, done}
-use Rattle.given.proofs.Answering.{answered-only}
-use Rattle.lengths.specs.declared.Length.{Length}
-use Rattle.lengths.specs.Distance.{Spoken}
-use Rattle.lengths.specs.Answers.{Compares, Speaks}
-use Rattle.lengths.proofs.Rounding.{spoken-unique}
-use Rattle.floor.specs.Floor.{Map}
-use Rattle.rooms.specs.Answers.{Rooms}
-use Rattle.table.specs.Answers.{fillGives, checkGives}
+use Rattle.lengths.proofs.Unique.{compares-only, speaks-only}
 use Rattle.table.proofs.Unique.{fills-only, checks-only}
-use Rattle.route.specs.Answers.{answerGives}
 use Rattle.route.proofs.Unique.{finds-only, reads-table-only}
-use Rattle.plan.proofs.Only.{one-given}
-use Rattle.headset.specs.declared.CompareAnswer.{CompareAnswer}
-use Rattle.headset.specs.declared.DistanceAnswer.{DistanceAnswer}
-use Rattle.headset.specs.declared.CheckAnswer.{CheckAnswer}
-use Rattle.headset.specs.declared.RouteAnswer.{RouteAnswer}
-use Rattle.headset.specs.declared.RoomAnswer.{RoomAnswer}
-use Rattle.headset.specs.declared.PlanAnswer.{PlanAnswer}
-use Rattle.headset.specs.declared.QueryAnswer.{QueryAnswer}
-use Rattle.headset.specs.Told.{Fields, Through}
-use Rattle.headset.specs.Structs.{compareFields, distanceFields, fillFields, checkFields, routeFields, roomFields, planFields, queryFields, AsksQuery}
-use Rattle.headset.proofs.OneStruct.{told-once}
+use Rattle.rooms.proofs.Unique.{rooms-only}
+use Rattle.plan.proofs.Only.{reads-only}
+use Rattle.plan.proofs.Unique.{asks-only}
+use Rattle.headset.specs.Shown.{Shows, compareAnswer, distanceAnswer, numberOf, checkAnswer, routeAnswer, roomAnswer, planAnswer, queryAnswer}
 use Rattle.headset.proofs.ways_compare.Reads as compare-reads
 use Rattle.headset.proofs.ways_distance.Reads as distance-reads
 use Rattle.headset.proofs.ways_fill.Reads as fill-reads
@@ -38,119 +19,46 @@ use Rattle.headset.proofs.ways_room.Reads as room-reads
 use Rattle.headset.proofs.ways_read_plan.Reads as plan-reads
 use Rattle.headset.proofs.ways_query.Reads as query-reads
 
--- each struct is known by its fields
-abbrev value : Fields → ℕ → ℕ
-value f i = getD (f .answer) i 0
+module _ {A S : Type 0} (shown : A → S) {P Q : A → Type 0} where
+  -- where there is one answer, which leaves the buffers in one state (Same), one struct shows it
+  shows-once : {Same : Type 0} → ((a b : A) → P a → Q b → (a ≡ b) × Same) → (s t : S) → Shows shown P s → Shows shown Q t → (s ≡ t) × Same
+  shows-once one s t p q =
+      let (a, e, x) = p in
+      let (b, f, y) = q in
+      let (c, d) = one a b x y in
+      (e ∙ ap shown c ∙ sym f, d)
 
-abbrev place : Fields → ℕ
-place f = getD (f .place) 0 0
+  -- the same where there are no buffers
+  shows-one : ((a b : A) → P a → Q b → a ≡ b) → (s t : S) → Shows shown P s → Shows shown Q t → s ≡ t
+  shows-one one s t p q = shows-once (λ a b x y. (one a b x y, tt {0})) s t p q .0
 
-abbrev compareOf : Fields → CompareAnswer
-compareOf f = record { number = f .number; shorter = value f 0 }
-
-abbrev distanceOf : Fields → DistanceAnswer
-distanceOf f = record { number = f .number; centimetres = value f 0 }
-
-abbrev checkOf : Fields → CheckAnswer
-checkOf f = record { number = f .number; cell = place f }
-
-abbrev routeOf : Fields → RouteAnswer
-routeOf f = record { number = f .number; place = place f; straight = value f 0; diagonal = value f 1; legs = value f 2 }
-
-abbrev roomOf : Fields → RoomAnswer
-roomOf f = record { number = f .number; left = value f 0; top = value f 1; right = value f 2; bottom = value f 3 }
-
-abbrev planOf : Fields → PlanAnswer
-planOf f =
-    record {
-      number = f .number;
-      offset = place f;
-      width = value f 0;
-      height = value f 1;
-      size = value f 2;
-      «map_at» = value f 3;
-      «map_length» = value f 4;
-      queries = value f 5;
-      «first_query» = value f 6;
-    }
-
-abbrev queryOf : Fields → QueryAnswer
-queryOf f =
-    record { number = f .number; «start_column» = value f 0; «start_row» = value f 1; «goal_column» = value f 2; «goal_row» = value f 3 }
-
--- each promise is kept by one number with its values
-compares-one : (a b : Length) (g h : Given) → Compares a b g → Compares a b h → g ≡ h
-compares-one a b g h p q = answered-only _ (λ d e. d ∙ sym e) p q
-
-spoken-one : (size : ℕ) (l : Length) (g h : Given)
-    → ((n : ℕ) × (g ≡ done (n ∷ [])) × Spoken size l n) → ((n : ℕ) × (h ≡ done (n ∷ [])) × Spoken size l n) → g ≡ h
-spoken-one size l g h a b =
-    let (n, e, s) = a in
-    let (k, f, t) = b in
-    e ∙ ap (λ (i : ℕ). done (i ∷ [])) (spoken-unique size l n k s t) ∙ sym f
-
-speaks-one : (size : ℕ) (l : Length) (g h : Given) → Speaks size l g → Speaks size l h → g ≡ h
-speaks-one size l g h p q = answered-only _ (spoken-one size l g h) p q
-
-rooms-one : (m : Map) (column row : ℕ) (g h : Given) → Rooms m column row g → Rooms m column row h → g ≡ h
-rooms-one m column row g h p q = answered-only _ (λ d e. d ∙ sym e) p q
-
-asks-one : (bytes : List ℕ) (at : ℕ) (g h : Given) → AsksQuery bytes at g → AsksQuery bytes at h → g ≡ h
-asks-one bytes at g h p q = answered-only _ (λ d e. d ∙ sym e) p q
-
--- so is one that is stated of an answer
-through-one : {A : Type 0} (gives : A → Given) (P Q : A → Type 0) → ((a b : A) → P a → Q b → a ≡ b) → (g h : Given) → Through gives P g → Through gives Q h → g ≡ h
-through-one gives P Q one g h p q =
-    let (a, e, s) = p in
-    let (b, f, t) = q in
-    e ∙ ap gives (one a b s t) ∙ sym f
-
--- no second struct
 pub compare-only : (κs : _) (a : _) (r r′ : _) (x x′ : _) → compare-reads.Post κs a r x → compare-reads.Post κs a r′ x′ → r ≡ r′
-compare-only κs a r r′ x x′ p q = ap compareOf (told-once _ _ (compares-one _ _) (compareFields r) (compareFields r′) refl refl p q)
+compare-only κs a r r′ x x′ p q = shows-one compareAnswer (compares-only _ _) r r′ p q
 
 pub distance-only : (κs : _) (a : _) (r r′ : _) (x x′ : _) → distance-reads.Post κs a r x → distance-reads.Post κs a r′ x′ → r ≡ r′
-distance-only κs a r r′ x x′ p q = ap distanceOf (told-once _ _ (speaks-one _ _) (distanceFields r) (distanceFields r′) refl refl p q)
+distance-only κs a r r′ x x′ p q = shows-one distanceAnswer (speaks-only _ _) r r′ p q
 
 pub room-only : (κs : _) (a : _) (r r′ : _) (x x′ : _) → room-reads.Post κs a r x → room-reads.Post κs a r′ x′ → r ≡ r′
-room-only κs a r r′ x x′ p q = ap roomOf (told-once _ _ (rooms-one _ _ _) (roomFields r) (roomFields r′) refl refl p q)
+room-only κs a r r′ x x′ p q = shows-one roomAnswer (rooms-only _ _) r r′ p q
 
 pub plan-only : (κs : _) (a : _) (r r′ : _) (x x′ : _) → plan-reads.Post κs a r x → plan-reads.Post κs a r′ x′ → r ≡ r′
-plan-only κs a r r′ x x′ p q = ap planOf (told-once _ _ (λ g h. one-given) (planFields r) (planFields r′) refl refl p q)
+plan-only κs a r r′ x x′ p q = shows-one planAnswer (reads-only _) r r′ p q
 
 pub query-only : (κs : _) (a : _) (r r′ : _) (x x′ : _) → query-reads.Post κs a r x → query-reads.Post κs a r′ x′ → r ≡ r′
-query-only κs a r r′ x x′ p q = ap queryOf (told-once _ _ (asks-one _ _) (queryFields r) (queryFields r′) refl refl p q)
+query-only κs a r r′ x x′ p q = shows-one queryAnswer (asks-only _ _) r r′ p q
 
 pub check-only : (κs : _) (a : _) (r r′ : _) (x x′ : _) → check-reads.Post κs a r x → check-reads.Post κs a r′ x′ → r ≡ r′
-check-only κs a r r′ x x′ p q =
-    ap checkOf (told-once _ _ (through-one checkGives _ _ (checks-only _ _ _)) (checkFields r) (checkFields r′) refl refl p q)
+check-only κs a r r′ x x′ p q = shows-one checkAnswer (checks-only _ _) r r′ p q
 
--- no second struct, and no second contents of a buffer
 pub fill-only : (κs : _) (a : _) (r r′ : _) (x x′ : _) → fill-reads.Post κs a r x → fill-reads.Post κs a r′ x′
     → (r ≡ r′) × (now (x .1 .1 .1 .1 .1 .0) ≡ now (x′ .1 .1 .1 .1 .1 .0))
-fill-only κs a r r′ x x′ p q =
-    let (s, e, f) = p .kept in
-    let (t, d, g) = q .kept in (
-      ap (λ (k : Fields). k .number) (told-once _ _ (through-one fillGives _ _ (λ u v b c. fills-only _ _ _ u v _ _ b c .0)) (fillFields r) (fillFields r′) refl refl p q),
-      fills-only _ _ _ s t _ _ f g .1,
-    )
+fill-only κs a r r′ x x′ p q = shows-once numberOf (λ u v. fills-only _ _ u v _ _) r r′ p q
 
 pub find-route-only : (κs : _) (a : _) (r r′ : _) (x x′ : _) → find-reads.Post κs a r x → find-reads.Post κs a r′ x′
-    → (r ≡ r′) × (now (x .1 .1 .1 .1 .1 .1 .1 .0) ≡ now (x′ .1 .1 .1 .1 .1 .1 .1 .0)) × (now (x .1 .1 .1 .1 .1 .1 .1 .1 .0) ≡ now (x′ .1 .1 .1 .1 .1 .1 .1 .1 .0))
-find-route-only κs a r r′ x x′ p q =
-    let (s, e, f) = p .kept in
-    let (t, d, g) = q .kept in
-    let (i, j, k) = finds-only _ _ _ _ _ s t _ _ _ _ f g in (
-      ap routeOf (told-once _ _ (through-one answerGives _ _ (λ u v b c. finds-only _ _ _ _ _ u v _ _ _ _ b c .0)) (routeFields r) (routeFields r′) refl refl p q),
-      j,
-      k,
-    )
+    → (r ≡ r′)
+    × ((now (x .1 .1 .1 .1 .1 .1 .1 .0) ≡ now (x′ .1 .1 .1 .1 .1 .1 .1 .0)) × (now (x .1 .1 .1 .1 .1 .1 .1 .1 .0) ≡ now (x′ .1 .1 .1 .1 .1 .1 .1 .1 .0)))
+find-route-only κs a r r′ x x′ p q = shows-once routeAnswer (λ u v. finds-only _ _ _ u v _ _ _ _) r r′ p q
 
 pub route-from-table-only : (κs : _) (a : _) (r r′ : _) (x x′ : _) → from-reads.Post κs a r x → from-reads.Post κs a r′ x′
     → (r ≡ r′) × (now (x .1 .1 .1 .1 .1 .1 .1 .1 .0) ≡ now (x′ .1 .1 .1 .1 .1 .1 .1 .1 .0))
-route-from-table-only κs a r r′ x x′ p q =
-    let (s, e, f) = p .kept in
-    let (t, d, g) = q .kept in (
-      ap routeOf (told-once _ _ (through-one answerGives _ _ (λ u v b c. reads-table-only _ _ _ _ _ u v _ _ b c .0)) (routeFields r) (routeFields r′) refl refl p q),
-      reads-table-only _ _ _ _ _ s t _ _ f g .1,
-    )
+route-from-table-only κs a r r′ x x′ p q = shows-once routeAnswer (λ u v. reads-table-only _ _ _ u v _ _) r r′ p q

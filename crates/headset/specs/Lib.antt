@@ -1,3 +1,1 @@
-pub mod Told
-pub mod Structs
-pub mod Inner
+pub mod Shown

@@ -1,7 +1,7 @@
 // What the Rattle functions answered, as the structs that C reads.
 ghost use mathlib.Core.Path.{_≡_};
-ghost use Rattle.headset.specs.Inner.{compareAnswer, distanceAnswer, fillNumber, checkAnswer, routeAnswer};
-ghost use Rattle.headset.specs.Inner.{roomAnswer, planAnswer, queryAnswer};
+ghost use Rattle.headset.specs.Shown.{compareAnswer, distanceAnswer, numberOf, checkAnswer};
+ghost use Rattle.headset.specs.Shown.{routeAnswer, roomAnswer, planAnswer, queryAnswer};
 use crate::CheckAnswer;
 use crate::CompareAnswer;
 use crate::DistanceAnswer;
@@ -9,13 +9,13 @@ use crate::PlanAnswer;
 use crate::QueryAnswer;
 use crate::RoomAnswer;
 use crate::RouteAnswer;
+use given::Tested;
 use lengths::Compared;
 use lengths::Distance;
-use plan::Query;
+use plan::Asked;
 use plan::Reading;
 use rooms::Roomed;
 use route::Answer;
-use table::FillAnswer;
 
 // What comparing answered.
 pub fn compare_answer(a: Compared) -> CompareAnswer
@@ -30,8 +30,8 @@ pub fn compare_answer(a: Compared) -> CompareAnswer
             number: 0,
             shorter: 0,
         },
-        Compared::Refused(n) => CompareAnswer {
-            number: n as usize,
+        Compared::Refused(refusal) => CompareAnswer {
+            number: refusal.number as usize,
             shorter: 0,
         },
     }
@@ -46,33 +46,32 @@ pub fn distance_answer(a: Distance) -> DistanceAnswer
             number: 0,
             centimetres: n as usize,
         },
-        Distance::Refused(n) => DistanceAnswer {
-            number: n as usize,
+        Distance::Refused(refusal) => DistanceAnswer {
+            number: refusal.number as usize,
             centimetres: 0,
         },
     }
 }
 
-// What filling answered, as its number.
-pub fn fill_number(a: FillAnswer) -> usize
-    ensures { λ r. ⌜ r ≡ fillNumber a ⌝ }
+// What a call without values answered, as its number.
+pub fn number_of(a: Tested) -> usize
+    ensures { λ r. ⌜ r ≡ numberOf a ⌝ }
 {
     match a {
-        FillAnswer::Filled => 0,
-        FillAnswer::Refused(n) => n as usize,
+        Tested::Passed => 0,
+        Tested::Refused(refusal) => refusal.number as usize,
     }
 }
 
 // What checking answered.
-pub fn check_answer(a: table::CheckAnswer) -> CheckAnswer
+pub fn check_answer(a: Tested) -> CheckAnswer
     ensures { λ r. ⌜ r ≡ checkAnswer a ⌝ }
 {
     match a {
-        table::CheckAnswer::Right => CheckAnswer { number: 0, cell: 0 },
-        table::CheckAnswer::Differs(cell) => CheckAnswer { number: 11, cell },
-        table::CheckAnswer::Refused(n) => CheckAnswer {
-            number: n as usize,
-            cell: 0,
+        Tested::Passed => CheckAnswer { number: 0, cell: 0 },
+        Tested::Refused(refusal) => CheckAnswer {
+            number: refusal.number as usize,
+            cell: refusal.place,
         },
     }
 }
@@ -111,8 +110,8 @@ pub fn room_answer(a: Roomed) -> RoomAnswer
             right: room.right,
             bottom: room.bottom,
         },
-        Roomed::Refused(n) => RoomAnswer {
-            number: n as usize,
+        Roomed::Refused(refusal) => RoomAnswer {
+            number: refusal.number as usize,
             left: 0,
             top: 0,
             right: 0,
@@ -137,9 +136,9 @@ pub fn plan_answer(a: Reading) -> PlanAnswer
             queries: plan.queries,
             first_query: plan.first_query,
         },
-        Reading::Broken(at) => PlanAnswer {
-            number: 14,
-            offset: at,
+        Reading::Refused(refusal) => PlanAnswer {
+            number: refusal.number as usize,
+            offset: refusal.place,
             width: 0,
             height: 0,
             size: 0,
@@ -151,15 +150,24 @@ pub fn plan_answer(a: Reading) -> PlanAnswer
     }
 }
 
-// A query.
-pub fn query_answer(q: Query) -> QueryAnswer
-    ensures { λ r. ⌜ r ≡ queryAnswer q ⌝ }
+// What asking for a query answered.
+pub fn query_answer(a: Asked) -> QueryAnswer
+    ensures { λ r. ⌜ r ≡ queryAnswer a ⌝ }
 {
-    QueryAnswer {
-        number: 0,
-        start_column: q.start_col,
-        start_row: q.start_row,
-        goal_column: q.goal_col,
-        goal_row: q.goal_row,
+    match a {
+        Asked::Query(query) => QueryAnswer {
+            number: 0,
+            start_column: query.start_col,
+            start_row: query.start_row,
+            goal_column: query.goal_col,
+            goal_row: query.goal_row,
+        },
+        Asked::Refused(refusal) => QueryAnswer {
+            number: refusal.number as usize,
+            start_column: 0,
+            start_row: 0,
+            goal_column: 0,
+            goal_row: 0,
+        },
     }
 }

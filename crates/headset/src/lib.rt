@@ -1,18 +1,15 @@
-// The library as a headset links it: every entry point as a C function on numbers, slices and plain structs. A slice is a pointer and
-// then a length. Each function promises what its Rattle function promises, told by the struct's fields, and asks nothing of its caller.
-ghost use mathlib.Core.Path.{_≡_};
-ghost use Rattle.floor.specs.Floor.{mapOf};
-ghost use Rattle.floor.specs.Inner.{testOf};
-ghost use Rattle.floor.specs.Calls.{spotOf};
-ghost use Rattle.rooms.specs.Answers.{Rooms};
+// The library as a headset links it: every entry point as a C function on numbers, slices and plain structs. A slice
+// is a pointer and then a length. Each function promises what its Rattle function promises, told by the struct's
+// fields, and asks nothing of its caller.
+ghost use Rattle.floor.specs.Floor.{mapOf, spotOf};
+ghost use Rattle.calls.specs.Calls.{toGoalOf, routeOf};
 ghost use Rattle.lengths.specs.Answers.{Compares, Speaks};
-ghost use Rattle.plan.specs.Reads.{Reads};
-ghost use Rattle.route.specs.Answers.{answerGives, Finds, ReadsTable};
-ghost use Rattle.table.specs.Answers.{fillGives, Fills, checkGives, Checks};
-ghost use Rattle.headset.specs.Told.{Told, Through};
-ghost use Rattle.headset.specs.Structs.{lengthOf, compareFields, distanceFields, fillFields, checkFields, routeFields};
-ghost use Rattle.headset.specs.Structs.{roomFields, planFields, queryFields, recordPast, AsksQuery};
-use floor::Test;
+ghost use Rattle.table.specs.Answers.{Fills, Checks};
+ghost use Rattle.route.specs.Answers.{Finds, ReadsTable};
+ghost use Rattle.rooms.specs.Answers.{Rooms};
+ghost use Rattle.plan.specs.Reads.{Reads, Asks};
+ghost use Rattle.headset.specs.Shown.{Shows, lengthOf, compareAnswer, distanceAnswer, numberOf, checkAnswer};
+ghost use Rattle.headset.specs.Shown.{routeAnswer, roomAnswer, planAnswer, queryAnswer};
 use lengths::Length;
 
 mod answers;
@@ -90,7 +87,7 @@ pub extern "C" fn ways_compare(
     second_straight: u32,
     second_diagonal: u32,
 ) -> CompareAnswer
-    ensures { λ r. ⌜ Told (Compares (lengthOf «first_straight» «first_diagonal») (lengthOf «second_straight» «second_diagonal»)) (compareFields r) ⌝ }
+    ensures { λ r. ⌜ Shows compareAnswer (Compares (lengthOf «first_straight» «first_diagonal») (lengthOf «second_straight» «second_diagonal»)) r ⌝ }
 {
     let first = Length {
         straight: first_straight,
@@ -106,7 +103,7 @@ pub extern "C" fn ways_compare(
 // The distance spoken, in centimetres.
 #[no_mangle]
 pub extern "C" fn ways_distance(size: u32, straight: u32, diagonal: u32) -> DistanceAnswer
-    ensures { λ r. ⌜ Told (Speaks size (lengthOf straight diagonal)) (distanceFields r) ⌝ }
+    ensures { λ r. ⌜ Shows distanceAnswer (Speaks size (lengthOf straight diagonal)) r ⌝ }
 {
     answers::distance_answer(lengths::distance_spoken(size, Length { straight, diagonal }))
 }
@@ -121,9 +118,9 @@ pub extern "C" fn ways_fill(
     row: usize,
     table: &mut [u32],
 ) -> usize
-    ensures { λ r. ⌜ Told (Through fillGives (λ a. Fills (mapOf width height (now (map .entry))) (spotOf column row) (now (table .entry)) a (now (table .exit)))) (fillFields r) ⌝ }
+    ensures { λ r. ⌜ Shows numberOf (λ a. Fills (toGoalOf width height (now (map .entry)) column row) (now (table .entry)) a (now (table .exit))) r ⌝ }
 {
-    answers::fill_number(table::fill(width, height, map, column, row, table))
+    answers::number_of(table::fill(width, height, map, column, row, table))
 }
 
 // Checking a table from anyone for the goal at a column and a row.
@@ -136,7 +133,7 @@ pub extern "C" fn ways_check(
     row: usize,
     table: &[u32],
 ) -> CheckAnswer
-    ensures { λ r. ⌜ Told (Through checkGives (λ a. Checks (mapOf width height (now (map .entry))) (spotOf column row) (now (table .entry)) a)) (checkFields r) ⌝ }
+    ensures { λ r. ⌜ Shows checkAnswer (Checks (toGoalOf width height (now (map .entry)) column row) (now (table .entry))) r ⌝ }
 {
     answers::check_answer(table::check(width, height, map, column, row, table))
 }
@@ -154,7 +151,8 @@ pub extern "C" fn ways_find_route(
     table: &mut [u32],
     legs: &mut [u8],
 ) -> RouteAnswer
-    ensures { λ r. ⌜ Told (Through answerGives (λ a. Finds (mapOf width height (now (map .entry))) (spotOf «from_column» «from_row») (spotOf column row) (now (table .entry)) (now (legs .entry)) a (now (table .exit)) (now (legs .exit)))) (routeFields r) ⌝ }
+    ensures { λ r. ⌜ Shows routeAnswer (λ a. Finds (routeOf width height (now (map .entry)) «from_column» «from_row» column row)
+        (now (table .entry)) (now (legs .entry)) a (now (table .exit)) (now (legs .exit))) r ⌝ }
 {
     answers::route_answer(route::find_route(
         width,
@@ -182,7 +180,8 @@ pub extern "C" fn ways_route_from_table(
     table: &[u32],
     legs: &mut [u8],
 ) -> RouteAnswer
-    ensures { λ r. ⌜ Told (Through answerGives (λ a. ReadsTable (mapOf width height (now (map .entry))) (spotOf «from_column» «from_row») (spotOf column row) (now (table .entry)) (now (legs .entry)) a (now (legs .exit)))) (routeFields r) ⌝ }
+    ensures { λ r. ⌜ Shows routeAnswer (λ a. ReadsTable (routeOf width height (now (map .entry)) «from_column» «from_row» column row)
+        (now (table .entry)) (now (legs .entry)) a (now (legs .exit))) r ⌝ }
 {
     answers::route_answer(route::route_from_table(
         width,
@@ -206,7 +205,7 @@ pub extern "C" fn ways_room(
     column: usize,
     row: usize,
 ) -> RoomAnswer
-    ensures { λ r. ⌜ Told (Rooms (mapOf width height (now (map .entry))) column row) (roomFields r) ⌝ }
+    ensures { λ r. ⌜ Shows roomAnswer (Rooms (mapOf width height (now (map .entry))) (spotOf column row)) r ⌝ }
 {
     answers::room_answer(rooms::room_around(width, height, map, column, row))
 }
@@ -214,37 +213,15 @@ pub extern "C" fn ways_room(
 // What the bytes are as a plan.
 #[no_mangle]
 pub extern "C" fn ways_read_plan(bytes: &[u8]) -> PlanAnswer
-    ensures { λ r. ⌜ Told (Reads (now (bytes .entry))) (planFields r) ⌝ }
+    ensures { λ r. ⌜ Shows planAnswer (Reads (now (bytes .entry))) r ⌝ }
 {
     answers::plan_answer(plan::read(bytes))
-}
-
-// Whether a query's record, of 12 bytes, that begins at an offset lies within the bytes.
-fn test_record(bytes: &[u8], at: usize) -> Test
-    ensures { λ r. ⌜ r ≡ testOf (recordPast (now (bytes .entry)) at) ⌝ }
-{
-    if bytes.len() < 12 {
-        return Test::Failed;
-    }
-    if bytes.len() - 12 < at {
-        return Test::Failed;
-    }
-    Test::Passed
 }
 
 // The query whose record begins at an offset; 14 where the bytes end before the record does.
 #[no_mangle]
 pub extern "C" fn ways_query(bytes: &[u8], at: usize) -> QueryAnswer
-    ensures { λ r. ⌜ Told (AsksQuery (now (bytes .entry)) at) (queryFields r) ⌝ }
+    ensures { λ r. ⌜ Shows queryAnswer (Asks (now (bytes .entry)) at) r ⌝ }
 {
-    let Test::Passed = test_record(bytes, at) else {
-        return QueryAnswer {
-            number: 14,
-            start_column: 0,
-            start_row: 0,
-            goal_column: 0,
-            goal_row: 0,
-        };
-    };
-    answers::query_answer(plan::query_at(bytes, at))
+    answers::query_answer(plan::ask_query(bytes, at))
 }

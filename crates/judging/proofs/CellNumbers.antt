@@ -1,5 +1,5 @@
--- The number of a cell: which entry it stands for, that open cells stand below the wall and blocked ones not, and that the lesser of
--- two entries has the lesser number.
+-- The number of a cell: which entry it stands for, that open cells stand below the wall and blocked ones not, and that
+-- the lesser of two entries has the lesser number.
 use mathlib.Core.Path.{_≡_, refl, ap₂, sym, subst, _∙_}
 use mathlib.Core.Bool.{Bool, true, false, not, true≢false, false≢true}
 use mathlib.Core.List.{List}
@@ -9,17 +9,18 @@ use lib.Dec.{T as Holds, ltb, eqb}
 use lib.Arith.{digits-lt}
 use lib.ListN.{getD, length}
 use borrow.Author.Tests.{eqb-true, lt-ltb, ltb-true}
-use Rattle.given.specs.Given.{pick}
-use Rattle.lengths.specs.Answers.{partAbove}
+use Rattle.given.specs.Bools.{pick, both}
+use Rattle.lengths.specs.Answers.{wayPart, partAbove}
 use Rattle.lengths.specs.Inner.{Within}
 use Rattle.lengths.specs.Order.{_⊑_, shorter}
 use Rattle.lengths.proofs.Order.{_⊏_, ⊏-⊑, shorter-yes, shorter-no}
-use Rattle.lengths.proofs.Keys.{key, order-key}
+use Rattle.lengths.specs.Keys.{key}
+use Rattle.lengths.proofs.Keys.{order-key}
 use Rattle.lengths.proofs.Tested.{small-parts, parts-small}
-use Rattle.calls.specs.CallTests.{Fitting}
-use Rattle.floor.specs.Floor.{Map, both, blocked, open?, cellOf}
+use Rattle.floor.specs.Inner.{Fitting}
+use Rattle.floor.specs.Floor.{Map, blocked, open?, cellOf}
 use Rattle.steps.specs.Leading.{openPast}
-use Rattle.floor.proofs.Joined.{both-true}
+use Rattle.given.proofs.Bools.{both-true}
 use Rattle.steps.proofs.OnMap.{few-cells}
 use Rattle.entries.specs.Entry.{Entry, mark, long, partsOf, malformed, read}
 use Rattle.entries.specs.Best.{lesser}
@@ -27,39 +28,39 @@ use Rattle.entries.proofs.Lists.{getD-any}
 use Rattle.judging.specs.Number.{none, wall, keyOf, notMark, openNumber, numberOf, onFloor, numberAt}
 
 -- what an entry is, and its number in an open cell
-pub data Kind (v : ℕ) : Type 0 where
-  the-mark : v ≡ 4294967295 → read v ≡ mark → openNumber v ≡ none → Kind v
-  bad : malformed v ≡ true → read v ≡ mark → openNumber v ≡ none + 1 → Kind v
-  good : malformed v ≡ false → Within (partsOf v) → read v ≡ long (partsOf v) → openNumber v ≡ key (partsOf v) → Kind v
+pub data EntryKind (v : ℕ) : Type 0 where
+  the-mark : v ≡ 4294967295 → read v ≡ mark → openNumber v ≡ none → EntryKind v
+  bad : malformed v ≡ true → read v ≡ mark → openNumber v ≡ none + 1 → EntryKind v
+  good : malformed v ≡ false → Within (partsOf v) → read v ≡ long (partsOf v) → openNumber v ≡ key (partsOf v) → EntryKind v
 
-pub kind : (v : ℕ) → Kind v
+pub kind : (v : ℕ) → EntryKind v
 unfolding read openNumber
-kind v = by (eqb v 4294967295) (partAbove (partsOf v)) refl refl
+kind v = by (eqb v 4294967295) (partAbove wayPart (partsOf v)) refl refl
   where
-    by : (s t : Bool) → eqb v 4294967295 ≡ s → partAbove (partsOf v) ≡ t → Kind v
+    by : (s t : Bool) → eqb v 4294967295 ≡ s → partAbove wayPart (partsOf v) ≡ t → EntryKind v
     by true true p q = the-mark (eqb-true v 4294967295 p) (rw q) (rw (q, p))
     by false true p q = bad (rw (p, q)) (rw q) (rw (q, p))
-    by true false p q = good (rw p) (small-parts (partsOf v) q) (rw q) (rw q)
-    by false false p q = good (rw (p, q)) (small-parts (partsOf v) q) (rw q) (rw q)
+    by true false p q = good (rw p) (small-parts wayPart (partsOf v) q) (rw q) (rw q)
+    by false false p q = good (rw (p, q)) (small-parts wayPart (partsOf v) q) (rw q) (rw q)
 
 -- the test of both parts at once
 pub open-good : (v : ℕ) → v / 65536 / 16384 + v % 65536 / 16384 ≡ 0 → openNumber v ≡ key (partsOf v)
 unfolding openNumber
-open-good v e = rw (parts-small (partsOf v) (omega arith))
+open-good v e = rw (parts-small wayPart (partsOf v) (omega arith))
 
 pub open-bad : (v : ℕ) → (v / 65536 / 16384 + v % 65536 / 16384 ≡ 0 → ⊥) → openNumber v ≡ none + notMark v
 unfolding openNumber
-open-bad v e = by (partAbove (partsOf v)) refl
+open-bad v e = by (partAbove wayPart (partsOf v)) refl
   where
-    by : (t : Bool) → partAbove (partsOf v) ≡ t → pick t (none + notMark v) (key (partsOf v)) ≡ none + notMark v
+    by : (t : Bool) → partAbove wayPart (partsOf v) ≡ t → pick t (none + notMark v) (key (partsOf v)) ≡ none + notMark v
     by true p = refl
-    by false p = let w = small-parts (partsOf v) p in absurd (e (omega arith))
+    by false p = let w = small-parts wayPart (partsOf v) p in absurd (e (omega arith))
 
 -- an open cell's number is below the wall
 pub open-low : (v : ℕ) → openNumber v < wall
 open-low v = by (kind v)
   where
-    by : Kind v → openNumber v < wall
+    by : EntryKind v → openNumber v < wall
     by (the-mark e r n) = omega arith
     by (bad e r n) = omega arith
     by (good e w r n) = omega arith
@@ -72,35 +73,44 @@ not-mark-low v = by (eqb v 4294967295)
     by false = omega arith
 
 -- where a cell is open, its number is below the wall, else it is not
-pub record Stands (free : Bool) (n : ℕ) : Type 0 where
+pub record ByWall (free : Bool) (n : ℕ) : Type 0 where
   pub below : free ≡ true → n < wall
   pub above : free ≡ false → wall ≤ n
   pub low : n ≤ wall + 1
 
-pub record Placed (free : Bool) (v n : ℕ) : Type 0 where
-  pub stands : Stands free n
+pub record NumberPlaced (free : Bool) (v n : ℕ) : Type 0 where
+  pub stands : ByWall free n
   pub same : free ≡ true → n ≡ openNumber v
 
-off : (v n : ℕ) → wall ≤ n → n ≤ wall + 1 → Placed false v n
+off : (v n : ℕ) → wall ≤ n → n ≤ wall + 1 → NumberPlaced false v n
 off v n p q = record { stands = record { below = λ e. absurd (false≢true e); above = λ e. p; low = q }; same = λ e. absurd (false≢true e) }
 
-placed : (a b d e f : Bool) (v : ℕ) → Placed (both a (both b (both d (both e (not f))))) v (pick (both a (both b (both d e))) (numberOf f v) wall)
+placed : (a b d e f : Bool) (v : ℕ) → NumberPlaced (both a (both b (both d (both e (not f))))) v (pick (both a (both b (both d e))) (numberOf f v) wall)
 unfolding numberOf
 placed false b d e f v = off v wall (omega arith) (omega arith)
 placed true false d e f v = off v wall (omega arith) (omega arith)
 placed true true false e f v = off v wall (omega arith) (omega arith)
 placed true true true false f v = off v wall (omega arith) (omega arith)
 placed true true true true true v = off v (wall + notMark v) (omega arith) (omega (arith, not-mark-low v))
-placed true true true true false v = record { stands = record { below = λ p. open-low v; above = λ p. absurd (true≢false p); low = omega (arith, open-low v) }; same = λ p. refl }
+placed true true true true false v = record {
+  stands = record {
+    below = λ p. open-low v;
+    above = λ p. absurd (true≢false p);
+    low = omega
+        (arith, open-low v);
+  };
+  same = λ p. refl;
+}
 
 -- the number at a column and a row, counted from one further
-pub number-placed : (m : Map) (t : List ℕ) (c r : ℕ) → Placed (openPast m c r) (getD t (cellOf m (c - 1) (r - 1)) 4294967295) (numberAt m t c r)
+pub number-placed : (m : Map) (t : List ℕ) (c r : ℕ) → NumberPlaced (openPast m c r) (getD t (cellOf m (c - 1) (r - 1)) 4294967295) (numberAt m t c r)
 unfolding openPast open? onFloor numberAt
 number-placed m t c r =
     placed (ltb 0 c) (ltb 0 r) (ltb (c - 1) (m .width)) (ltb (r - 1) (m .height)) (blocked m (c - 1) (r - 1)) (getD t (cellOf m (c - 1) (r - 1)) 4294967295)
 
 -- the number of a cell on the floor
-pub number-on : (m : Map) (t : List ℕ) (c r : ℕ) → c < m .width → r < m .height → numberAt m t (c + 1) (r + 1) ≡ numberOf (blocked m c r) (getD t (cellOf m c r) 4294967295)
+pub number-on : (m : Map) (t : List ℕ) (c r : ℕ) → c < m .width → r < m .height
+    → numberAt m t (c + 1) (r + 1) ≡ numberOf (blocked m c r) (getD t (cellOf m c r) 4294967295)
 unfolding onFloor numberAt
 number-on m t c r p q =
     let c′ : c + 1 - 1 ≡ c = omega arith in
@@ -158,16 +168,16 @@ number-off m t c r o = by (onFloor m c r) refl
     by false e = refl
 
 -- each part at most 16,384, as in what the neighbours make a cell
-abbrev pub Small : Entry → Type 0
-Small mark = Unit {0}
-Small (long a) = (a .straight ≤ 16384) × (a .diagonal ≤ 16384)
+abbrev pub SmallEntry : Entry → Type 0
+SmallEntry mark = Unit {0}
+SmallEntry (long a) = (a .straight ≤ 16384) × (a .diagonal ≤ 16384)
 
-pub key-low : (e : Entry) → Small e → keyOf e ≤ none
+pub key-low : (e : Entry) → SmallEntry e → keyOf e ≤ none
 key-low mark s = omega arith
 key-low (long a) s = omega arith
 
 -- the lesser entry has the lesser number
-pub key-lesser : (e f : Entry) → Small e → Small f → keyOf (lesser e f) ≡ min (keyOf e) (keyOf f)
+pub key-lesser : (e f : Entry) → SmallEntry e → SmallEntry f → keyOf (lesser e f) ≡ min (keyOf e) (keyOf f)
 key-lesser mark f s u = omega (arith, key-low f u)
 key-lesser (long a) mark s u = omega arith
 key-lesser (long a) (long b) s u = by (shorter b a) (shorter-yes b a) (shorter-no b a)

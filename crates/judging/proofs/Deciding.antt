@@ -1,6 +1,6 @@
--- Comparing numbers decides whether a cell is right, over any set of permitted steps and of goal cells: an open cell is right exactly if
--- its number is the key of what its neighbours make it, a blocked one exactly if its number is the wall's.
--- Assumes nothing.
+-- Comparing numbers decides whether a cell is right, over any set of permitted steps and of goal cells: an open cell is
+-- right exactly if its number is the key of what its neighbours make it, a blocked one exactly if its number is the
+-- wall's.
 use mathlib.Core.Path.{_≡_, refl, ap, sym, subst, _∙_}
 use mathlib.Core.Bool.{Bool, true, false, true≢false}
 use mathlib.Core.List.{List}
@@ -9,11 +9,12 @@ use native.Mathlib.Omega.{arith}
 use lib.Dec.{T as Holds, eqb, eqb→eq, eqb-refl}
 use lib.ListN.{getD}
 use borrow.Author.Tests.{eq-eqb, eqb-true}
-use Rattle.given.specs.Given.{pick}
+use Rattle.given.specs.Bools.{pick}
 use Rattle.lengths.specs.declared.Length.{Length}
 use Rattle.lengths.specs.Order.{_⊕_, _⊑_}
 use Rattle.lengths.proofs.Order.{⊑-antisym}
-use Rattle.lengths.proofs.Keys.{key, key-order}
+use Rattle.lengths.specs.Keys.{key}
+use Rattle.lengths.proofs.Keys.{key-order}
 use Rattle.floor.specs.Floor.{Map}
 use Rattle.steps.specs.Leading.{leadOf}
 use Rattle.steps.specs.Step.{stepsOf}
@@ -26,7 +27,7 @@ use Rattle.entries.proofs.Best.{graph, made-is, made-unique}
 use Rattle.entries.proofs.Neighbours.{long-inj}
 use Rattle.entries.proofs.Packing.{mark-formed, pack-inj}
 use Rattle.judging.specs.Number.{wall, keyOf, openNumber, numberOf}
-use Rattle.judging.proofs.CellNumbers.{Kind, the-mark, bad, good, kind, Small}
+use Rattle.judging.proofs.CellNumbers.{EntryKind, the-mark, bad, good, kind, SmallEntry}
 
 module _ (G : Graph) (Goal : ℕ → Type 0) (t : List ℕ) (x : ℕ) (e : Entry) (is : Made G Goal (entryAt t) x e)
     (only : (f : Entry) → Made G Goal (entryAt t) x f → f ≡ e) where
@@ -44,10 +45,10 @@ module _ (G : Graph) (Goal : ℕ → Type 0) (t : List ℕ) (x : ℕ) (e : Entry
   same-key : (a b : Length) → a .straight ≤ 16384 → b .straight ≤ 16384 → key a ≡ key b → a ≡ b
   same-key a b p q e = ⊑-antisym (key-order a b (omega arith) (omega arith)) (key-order b a (omega arith) (omega arith))
 
-  pub open-right : Small e → openNumber v ≡ keyOf e → Right G Goal t x
+  pub open-right : SmallEntry e → openNumber v ≡ keyOf e → Right G Goal t x
   open-right small n = by e refl (kind v) small n
     where
-      by : (f : Entry) → e ≡ f → Kind v → Small f → openNumber v ≡ keyOf f → Right G Goal t x
+      by : (f : Entry) → e ≡ f → EntryKind v → SmallEntry f → openNumber v ≡ keyOf f → Right G Goal t x
       by mark p (the-mark a r b) s q = rightly (ap malformed a ∙ mark-formed) (a ∙ ap pack (sym p))
       by mark p (bad a r b) s q = absurd (omega arith)
       by mark p (good a w r b) s q = absurd (omega arith)
@@ -57,10 +58,10 @@ module _ (G : Graph) (Goal : ℕ → Type 0) (t : List ℕ) (x : ℕ) (e : Entry
           let k : partsOf v ≡ l = same-key (partsOf v) l (omega arith) (s .0) (sym b ∙ q) in
           rightly a (omega (arith, ap (λ (z : Length). z .straight) k, ap (λ (z : Length). z .diagonal) k, ap pack p))
 
-  pub right-open : Small e → Right G Goal t x → openNumber v ≡ keyOf e
+  pub right-open : SmallEntry e → Right G Goal t x → openNumber v ≡ keyOf e
   right-open small p = by e (packed p) (kind v) small
     where
-      by : (f : Entry) → v ≡ pack f → Kind v → Small f → openNumber v ≡ keyOf f
+      by : (f : Entry) → v ≡ pack f → EntryKind v → SmallEntry f → openNumber v ≡ keyOf f
       by mark q (the-mark a r b) s = b
       by mark q (bad a r b) s = absurd (true≢false (sym a ∙ p .formed))
       by mark q (good a w r b) s = absurd (omega arith)
@@ -83,9 +84,14 @@ module _ (G : Graph) (Goal : ℕ → Type 0) (t : List ℕ) (x : ℕ) (e : Entry
 
 -- what the neighbours make a cell goes by the steps out of it alone
 made-along :
-    (G G′ : Graph) (Goal Goal′ : ℕ → Type 0) (T : ℕ → Entry) (x : ℕ) → ((h y : ℕ) → G .Step h x y → G′ .Step h x y) → ((h y : ℕ) → G′ .Step h x y → G .Step h x y)
+    (G G′ : Graph) (Goal Goal′ : ℕ → Type 0) (T : ℕ → Entry) (x : ℕ) → ((h y : ℕ) → G .Step h x y → G′ .Step h x y)
+    → ((h y : ℕ) → G′ .Step h x y → G .Step h x y)
     → ((h : ℕ) → G .weight h ≡ G′ .weight h) → (Goal x → Goal′ x) → (Goal′ x → Goal x) → (e : Entry) → Made G Goal T x e → Made G′ Goal′ T x e
-made-along G G′ Goal Goal′ T x to from weigh goal goal′ e k = record { at-goal = λ g. k .at-goal (goal′ g); elsewhere = λ g. by e (k .elsewhere (λ a. g (goal a))) }
+made-along G G′ Goal Goal′ T x to from weigh goal goal′ e k = record {
+  at-goal = λ g. k .at-goal (goal′ g);
+  elsewhere = λ g. by e
+      (k .elsewhere (λ a. g (goal a)));
+}
   where
     by : (f : Entry) → Least G T x f → Least G′ T x f
     by mark l = λ h y s. l h y (from h y s)

@@ -1,13 +1,14 @@
--- The window over a floor: the cell at a column of its middle row differs, by the numbers, exactly if it is not right. The argument:
--- Each place of the window has the number of its column and row (`at-place`), so what a heading offers is made of the numbers of the
--- cell where it leads and of the two beside (`offer-at`). Out of an open cell this, or the mark's number if that is less, is the key of
--- what the heading offers in entries: with a permitted step the neighbour's key and the step's; without one the wall is added
--- (`heading-offer`, once over the heading). Keys order entries, so heading after heading the least number is the key of the least
--- entry (`least-best`), and in a goal cell it is 0, the key of (0, 0) (`least-made`).
--- An open cell's number is below the wall, and tells apart the mark, malformed entries and each length. So the cell does not differ
--- exactly if its number is that key, that is if its entry is well-formed and packs what its neighbours make it.
--- A blocked cell's number is the wall or above, where the least never is. So it does not differ exactly if its number is the wall, that
--- is if its entry is the mark, and its neighbours make it the mark, since no step leaves it.
+-- The window over a floor: the cell at a column of its middle row differs, by the numbers, exactly if it is not right.
+-- The argument: Each place of the window has the number of its column and row (`at-place`), so what a heading offers is
+-- made of the numbers of the cell where it leads and of the two beside (`offer-at`). Out of an open cell this, or the
+-- mark's number if that is less, is the key of what the heading offers in entries: with a permitted step the
+-- neighbour's key and the step's; without one the wall is added (`heading-offer`, once over the heading). Keys order
+-- entries, so heading after heading the least number is the key of the least entry (`least-best`), and in a goal cell
+-- it is 0, the key of (0, 0) (`least-made`). An open cell's number is below the wall, and tells apart the mark,
+-- malformed entries and each length. So the cell does not differ exactly if its number is that key, that is if its
+-- entry is well-formed and packs what its neighbours make it. A blocked cell's number is the wall or above, where the
+-- least never is. So it does not differ exactly if its number is the wall, that is if its entry is the mark, and its
+-- neighbours make it the mark, since no step leaves it.
 use mathlib.Core.Path.{_≡_, refl, ap, ap₂, sym, subst₂, _∙_}
 use mathlib.Core.Logic.{_⊎_, inl, inr, _↔_}
 use mathlib.Core.Bool.{Bool, true, false, not}
@@ -19,9 +20,9 @@ use lib.Arith.{digits-div, digits-mod}
 use lib.Dec.{eqb}
 use lib.ListN.{getD, length, List·getD-eq-default}
 use borrow.Author.Tests.{lt-ltb, eq-eqb, eqb-true}
-use Rattle.given.specs.Given.{pick}
+use Rattle.given.specs.Bools.{pick}
 use Rattle.lengths.specs.Order.{zeroLength}
-use Rattle.lengths.proofs.Keys.{key}
+use Rattle.lengths.specs.Keys.{key}
 use Rattle.floor.specs.Floor.{Map, Open, blocked, open?, cellOf}
 use Rattle.steps.specs.Heading.{changeOf, weight}
 use Rattle.steps.specs.Leading.{openPast, permitted, leadOf}
@@ -31,8 +32,8 @@ use Rattle.entries.specs.Entry.{Entry, mark, long, entryAt}
 use Rattle.entries.specs.Made.{Made, Right}
 use Rattle.entries.specs.Best.{offer, best, made}
 use Rattle.judging.specs.Number.{none, wall, keyOf, numberOf, numberAt}
-use Rattle.judging.specs.Window.{Low, shutOf, offeredIn, offerIn, leastIn, differsIn, Window}
-use Rattle.judging.proofs.CellNumbers.{open-low, number-placed, number-on, open-on, Small}
+use Rattle.judging.specs.Window.{LowNumbers, shutOf, offeredIn, offerIn, leastIn, differsIn, Window}
+use Rattle.judging.proofs.CellNumbers.{open-low, number-placed, number-on, open-on, SmallEntry}
 use Rattle.judging.proofs.Offering.{offer-key, best-small, best-more}
 use Rattle.judging.proofs.Deciding.{open-right, right-open, shut-right, right-shut, Tells, floor-only, floor-made}
 
@@ -75,7 +76,7 @@ module _ (m : Map) (t : List ℕ) (row : ℕ) (x : List ℕ) (w : Window m t row
       let b : z / 130 ≡ k = omega arith in
       w .numbers z (omega arith) (omega arith) ∙ ap₂ (λ (u v : ℕ). numberAt m t u (row + v)) a b
 
-  pub window-low : Low x
+  pub window-low : LowNumbers x
   window-low = record { low = λ z. by z (decLe 390 z) }
     where
       by : (z : ℕ) → Dec (390 ≤ z) → getD x z 0 ≤ wall + 1
@@ -84,18 +85,21 @@ module _ (m : Map) (t : List ℕ) (row : ℕ) (x : List ℕ) (w : Window m t row
 
   -- what a heading offers, by the numbers of the floor
   offer-at : (c h : ℕ) → c < 128 → h < 8
-      → offerIn x (131 + c) h ≡ numberAt m t (c + changeOf h .column) (row + changeOf h .row) + key (weight h) + shutOf (numberAt m t (c + 1) (row + changeOf h .row))
+      → offerIn x (131 + c) h ≡ numberAt m t (c + changeOf h .column) (row + changeOf h .row) + key (weight h) + shutOf
+      (numberAt m t (c + 1) (row + changeOf h .row))
       + shutOf (numberAt m t (c + changeOf h .column) (row + 1))
   unfolding offeredIn
   offer-at c h p q =
       let s = changes-of h q in
       rw (
-        at-place (131 + c + changeOf h .row * 130 + changeOf h .column - 131) (c + changeOf h .column) (changeOf h .row) (omega arith) (omega (arith, s)) (s .flat),
+        at-place (131 + c + changeOf h .row * 130 + changeOf h .column - 131) (c + changeOf h .column) (changeOf h .row) (omega arith)
+            (omega (arith, s)) (s .flat),
         at-place (131 + c + changeOf h .row * 130 - 130) (c + 1) (changeOf h .row) (omega arith) (omega arith) (s .flat),
         at-place (131 + c + changeOf h .column - 1) (c + changeOf h .column) 1 (omega arith) (omega (arith, s)) (omega arith),
       )
 
-  -- a column, over any goal cells that a test tells; what is least starts at 0 in a goal cell, and at the mark in any other
+  -- a column, over any goal cells that a test tells; what is least starts at 0 in a goal cell, and at the mark in any
+  -- other
   module _ (c : ℕ) (wide : c < m .width) (narrow : m .width ≤ 128) (high : row < m .height) (Goal : ℕ → Type 0) (goal : ℕ → Bool)
       (tells : Tells Goal goal) (goal-open : Goal (cellOf m c row) → Open m c row) (start : ℕ) (begins : start ≡ pick (goal (cellOf m c row)) 0 none) where
     -- the cell of this column
@@ -131,10 +135,10 @@ module _ (m : Map) (t : List ℕ) (row : ℕ) (x : List ℕ) (w : Window m t row
     is-made : Made (stepsOf m) Goal T here made-here
     is-made = floor-made m Goal goal tells t here
 
-    made-small : Small made-here
+    made-small : SmallEntry made-here
     made-small = by (goal here)
       where
-        by : (b : Bool) → Small (pick b (long zeroLength) (best (leadOf m) T here 8))
+        by : (b : Bool) → SmallEntry (pick b (long zeroLength) (best (leadOf m) T here 8))
         by true = (omega arith, omega arith)
         by false = best-small (leadOf m) t here 8
 
@@ -154,7 +158,8 @@ module _ (m : Map) (t : List ℕ) (row : ℕ) (x : List ℕ) (w : Window m t row
 
     number-here : (b : Bool) → blocked m c row ≡ b → getD x (131 + c) 0 ≡ numberOf b (getD t here 4294967295)
     number-here b e =
-        at-place (131 + c) (c + 1) 1 (omega arith) (omega arith) (omega arith) ∙ number-on m t c row wide high ∙ ap (λ (z : Bool). numberOf z (getD t here 4294967295)) e
+        at-place (131 + c) (c + 1) 1 (omega arith) (omega arith) (omega arith) ∙ number-on m t c row wide high
+        ∙ ap (λ (z : Bool). numberOf z (getD t here 4294967295)) e
 
     -- a blocked cell is made the mark
     shut-cell : blocked m c row ≡ true → Open m c row → ⊥
@@ -174,7 +179,8 @@ module _ (m : Map) (t : List ℕ) (row : ℕ) (x : List ℕ) (w : Window m t row
     equal-right : (b : Bool) → blocked m c row ≡ b → Equal → Right (stepsOf m) Goal t here
     unfolding numberOf
     equal-right true b (inl e) = absurd (omega (arith, start-low, least-low x (131 + c) start 8, number-here true b))
-    equal-right true b (inr e) = shut-right (stepsOf m) Goal t here mark (shut-made b) (floor-only m Goal goal tells t here mark (shut-made b)) refl (sym (number-here true b) ∙ e)
+    equal-right true b (inr e) = shut-right (stepsOf m) Goal t here mark (shut-made b) (floor-only m Goal goal tells t here mark (shut-made b)) refl
+        (sym (number-here true b) ∙ e)
     equal-right false b (inl e) =
         open-right (stepsOf m) Goal t here made-here is-made (floor-only m Goal goal tells t here made-here is-made) made-small
         (sym (number-here false b) ∙ e ∙ least-made (open-on m c row wide high ∙ ap not b))

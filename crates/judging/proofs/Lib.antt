@@ -2,4 +2,4 @@ pub mod CellNumbers
 pub mod Offering
 pub mod Deciding
 pub mod InWindow
-pub mod Turns
+pub mod OneMore

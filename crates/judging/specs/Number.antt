@@ -1,15 +1,15 @@
--- The one number that stands for a cell while its table is checked. A length is its key, 13,860 for each straight and 19,601 for each
--- diagonal step, which orders lengths as document 01 does; above every key stands the mark, and above that a blocked cell.
--- Assumes nothing.
+-- The one number that stands for a cell while its table is checked. A length is its key, 13,860 for each straight and
+-- 19,601 for each diagonal step, which orders lengths as document 01 does; above every key stands the mark, and above
+-- that a blocked cell.
 use mathlib.Core.Bool.{Bool}
 use mathlib.Core.List.{List}
 use Prim.Native.Nat.{ℕ, _+_, _-_}
 use lib.Dec.{ltb, eqb}
 use lib.ListN.{getD}
-use Rattle.given.specs.Given.{pick}
-use Rattle.lengths.specs.Answers.{partAbove}
-use Rattle.lengths.proofs.Keys.{key}
-use Rattle.floor.specs.Floor.{Map, both, blocked, cellOf}
+use Rattle.given.specs.Bools.{pick, both}
+use Rattle.lengths.specs.Answers.{wayPart, partAbove}
+use Rattle.lengths.specs.Keys.{key}
+use Rattle.floor.specs.Floor.{Map, blocked, cellOf}
 use Rattle.entries.specs.Entry.{Entry, mark, long, partsOf}
 
 -- an open cell with the mark
@@ -31,7 +31,7 @@ notMark v = pick (eqb v 4294967295) 0 1
 
 -- an open cell with this entry: a malformed one stands one above the mark
 unfoldable pub openNumber : ℕ → ℕ
-openNumber v = pick (partAbove (partsOf v)) (none + notMark v) (key (partsOf v))
+openNumber v = pick (partAbove wayPart (partsOf v)) (none + notMark v) (key (partsOf v))
 
 -- a cell with this entry: a blocked one with anything but the mark stands one above the wall
 unfoldable pub numberOf : Bool → ℕ → ℕ

@@ -1,20 +1,19 @@
--- The window on the floor: three rows of numbers, each 130 wide, with a border at each end of a row; what a cell of its middle row is
--- offered, and whether it differs.
--- Assumes nothing.
+-- The window on the floor: three rows of numbers, each 130 wide, with a border at each end of a row; what a cell of its
+-- middle row is offered, and whether it differs.
 use mathlib.Core.Path.{_≡_}
 use mathlib.Core.Logic.{_⊎_}
 use mathlib.Core.List.{List}
 use Prim.Native.Nat.{ℕ, zero, suc, _+_, _-_, _*_, _/_, _%_, min, _≤_, _<_}
 use lib.Dec.{leb, eqb}
 use lib.ListN.{length, getD}
-use Rattle.given.specs.Given.{pick}
-use Rattle.lengths.proofs.Keys.{key}
+use Rattle.given.specs.Bools.{pick}
+use Rattle.lengths.specs.Keys.{key}
 use Rattle.floor.specs.Floor.{Map}
 use Rattle.steps.specs.Heading.{changeOf, weight}
 use Rattle.judging.specs.Number.{none, wall, numberAt}
 
 -- no number is above that of a blocked cell
-pub record Low (x : List ℕ) : Type 0 where
+pub record LowNumbers (x : List ℕ) : Type 0 where
   pub low : (z : ℕ) → getD x z 0 ≤ wall + 1
 
 -- what a cell beside a step adds: nothing if it is open
@@ -55,7 +54,8 @@ differing x goal (suc c) = differing x goal c + differsAt x goal c
 abbrev pub goalColumn : (goal first : ℕ) → ℕ
 goalColumn goal first = pick (leb first goal) (goal - first) 128
 
--- the first count rows of the window show the floor from this row on, the rows counted from one further; what stands beside the floor is a wall in all three
+-- the first count rows of the window show the floor from this row on, the rows counted from one further; what stands
+-- beside the floor is a wall in all three
 pub record Window (m : Map) (t : List ℕ) (row count : ℕ) (x : List ℕ) : Type 0 where
   pub size : length x ≡ 390
   pub numbers : (z : ℕ) → z < 390 → z < count * 130 → getD x z 0 ≡ numberAt m t (z % 130) (row + z / 130)

@@ -1,9 +1,4 @@
-// Numbers that stand for a cell while its table is checked, and the keys of steps.
-
-// The keys of a straight and of a diagonal step.
-pub const STRAIGHT: u32 = 13860;
-
-pub const DIAGONAL: u32 = 19601;
+// Numbers that stand for a cell while its table is checked.
 
 // An open cell with the mark.
 pub const NONE: u32 = 805306368;

@@ -1,12 +1,12 @@
 // What the headings offer a cell of the window's middle row, and the least of it.
 ghost use mathlib.Core.Path.{_≡_};
 ghost use Prim.Native.Nat.{_≤_, _<_, min};
-ghost use Rattle.lengths.proofs.Keys.{key};
+ghost use Rattle.lengths.specs.Keys.{key};
 ghost use Rattle.steps.specs.Heading.{weight};
-ghost use Rattle.judging.specs.Window.{Low, shutOf, offeredIn, offerIn, leastIn};
-use crate::cell_numbers::DIAGONAL;
-use crate::cell_numbers::STRAIGHT;
+ghost use Rattle.judging.specs.Window.{LowNumbers, shutOf, offeredIn, offerIn, leastIn};
 use crate::cell_numbers::WALL;
+use lengths::DIAGONAL_KEY;
+use lengths::STRAIGHT_KEY;
 
 // The lesser of two.
 fn lesser(a: u32, b: u32) -> u32
@@ -27,15 +27,16 @@ fn step_key(heading: usize) -> u32
     ensures { λ r. ⌜ r ≡ key (weight heading) ⌝ }
 {
     if heading % 2 == 0 {
-        return STRAIGHT;
+        return STRAIGHT_KEY;
     }
-    DIAGONAL
+    DIAGONAL_KEY
 }
 
-// What a step offers the cell at a place of the middle row: the number where it leads, its key, and what the two cells beside add.
+// What a step offers the cell at a place of the middle row: the number where it leads, its key, and what the two cells
+// beside add.
 fn offered(window: &[u32; 390], place: usize, across: usize, down: usize, key: u32) -> u32
     requires { ⌜ ((131 ≤ place) × (place < 259)) × ((across ≤ 2) × (down ≤ 2)) ⌝ }
-    requires { ⌜ (key ≤ 19601) × Low (now window) ⌝ }
+    requires { ⌜ (key ≤ 19601) × LowNumbers (now window) ⌝ }
     ensures { λ r. ⌜ r ≡ offeredIn (now (window .entry)) place across down key ⌝ }
 {
     let to = window[place + down * 130 + across - 131];
@@ -47,7 +48,7 @@ fn offered(window: &[u32; 390], place: usize, across: usize, down: usize, key: u
 // What a heading offers the cell at a place of the middle row.
 fn offer(window: &[u32; 390], place: usize, heading: usize) -> u32
     requires { ⌜ ((131 ≤ place) × (place < 259)) × (heading < 8) ⌝ }
-    requires { ⌜ Low (now window) ⌝ }
+    requires { ⌜ LowNumbers (now window) ⌝ }
     ensures { λ r. ⌜ r ≡ offerIn (now (window .entry)) place heading ⌝ }
 {
     let change = steps::change_of(heading);
@@ -57,7 +58,7 @@ fn offer(window: &[u32; 390], place: usize, heading: usize) -> u32
 // The least of the start and what the eight headings offer.
 pub fn least(window: &[u32; 390], place: usize, start: u32) -> u32
     requires { ⌜ (131 ≤ place) × (place < 259) ⌝ }
-    requires { ⌜ Low (now window) ⌝ }
+    requires { ⌜ LowNumbers (now window) ⌝ }
     ensures { λ r. ⌜ r ≡ leastIn (now (window .entry)) place start 8 ⌝ }
 {
     let mut least = start;

@@ -2,7 +2,7 @@
 ghost use mathlib.Core.Path.{_≡_};
 ghost use Prim.Native.Nat.{_≤_, _<_};
 ghost use Rattle.entries.specs.Made.{Judged};
-ghost use Rattle.judging.specs.Window.{Low, differsIn, startOf, differsAt, differing, goalColumn};
+ghost use Rattle.judging.specs.Window.{LowNumbers, differsIn, startOf, differsAt, differing, goalColumn};
 use crate::cell_numbers::NONE;
 use crate::cell_numbers::WALL;
 
@@ -12,7 +12,7 @@ pub const MIDDLE: usize = 131;
 // 0 if the number at a place of the middle row is a wall, or the least; else 1.
 fn differs(window: &[u32; 390], place: usize, start: u32) -> u32
     requires { ⌜ (131 ≤ place) × (place < 259) ⌝ }
-    requires { ⌜ Low (now window) ⌝ }
+    requires { ⌜ LowNumbers (now window) ⌝ }
     ensures { λ r. ⌜ r ≡ differsIn (now (window .entry)) place start ⌝ }
 {
     let number = window[place];
@@ -39,7 +39,7 @@ fn start_of(goal: u32, column: usize) -> u32
 // 0 if the cell at a column of the middle row is as its neighbours make it; else 1.
 fn differs_at(window: &[u32; 390], goal: u32, column: usize) -> u32
     requires { ⌜ column < 128 ⌝ }
-    requires { ⌜ Low (now window) ⌝ }
+    requires { ⌜ LowNumbers (now window) ⌝ }
     ensures { λ r. ⌜ r ≡ differsAt (now (window .entry)) goal column ⌝ }
 {
     differs(window, MIDDLE + column, start_of(goal, column))
@@ -48,7 +48,7 @@ fn differs_at(window: &[u32; 390], goal: u32, column: usize) -> u32
 // How many cells of the middle row differ.
 fn differing_in(window: &[u32; 390], width: usize, goal: u32) -> u32
     requires { ⌜ width ≤ 128 ⌝ }
-    requires { ⌜ Low (now window) ⌝ }
+    requires { ⌜ LowNumbers (now window) ⌝ }
     ensures { λ r. ⌜ r ≡ differing (now (window .entry)) goal width ⌝ }
 {
     let mut count: u32 = 0;
@@ -63,7 +63,7 @@ fn differing_in(window: &[u32; 390], width: usize, goal: u32) -> u32
 // The first cell of the middle row that differs, one by one.
 fn first_differing(window: &[u32; 390], width: usize, goal: u32) -> usize
     requires { ⌜ width ≤ 128 ⌝ }
-    requires { ⌜ Low (now window) ⌝ }
+    requires { ⌜ LowNumbers (now window) ⌝ }
     ensures { λ r. ⌜ Judged (λ c. differsAt (now (window .entry)) goal c ≡ 0) width r ⌝ }
 {
     let mut column: usize = 0;
@@ -79,7 +79,7 @@ fn first_differing(window: &[u32; 390], width: usize, goal: u32) -> usize
 // The first cell of the middle row that differs: they are looked at one by one only where some cell does.
 pub fn judge_row(window: &[u32; 390], width: usize, goal: u32) -> usize
     requires { ⌜ width ≤ 128 ⌝ }
-    requires { ⌜ Low (now window) ⌝ }
+    requires { ⌜ LowNumbers (now window) ⌝ }
     ensures { λ r. ⌜ Judged (λ c. differsAt (now (window .entry)) goal c ≡ 0) width r ⌝ }
 {
     if differing_in(window, width, goal) == 0 {

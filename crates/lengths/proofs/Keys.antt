@@ -1,8 +1,7 @@
--- One number for a length, its key: 13860 for each straight and 19601 for each diagonal step. Keys order lengths as document 01 does, as
--- long as the straight parts are below 19601, and a key gives its pair back, as long as the diagonal part is below 13860.
--- The idea: 19601² = 2 · 13860² + 1, so 19601 / 13860 is above √2 by very little. If p straight steps are more than r diagonal ones
--- (p² ≥ 2r² + 1) and yet 13860 p ≤ 19601 r, then r ≥ 13860 and so p ≥ 19601.
--- Assumes nothing.
+-- Keys order lengths as document 01 does, as long as the straight parts are below 19601, and a key gives its pair
+-- back, as long as the diagonal part is below 13860.
+-- The idea: 19601² = 2 · 13860² + 1, so 19601 / 13860 is above √2 by very little. If p straight steps are more than r
+-- diagonal ones (p² ≥ 2r² + 1) and yet 13860 p ≤ 19601 r, then r ≥ 13860 and so p ≥ 19601.
 use mathlib.Core.Path.{_≡_, ap, sym, _∙_}
 use Prim.Native.Nat.{ℕ, _+_, _-_, _*_, _/_, _%_, _≤_, _<_}
 use native.Mathlib.Nat.{mul-le-mul, mod-eq-of-lt, mul-add-mod-self-right}
@@ -10,30 +9,8 @@ use native.Mathlib.Decide.{decLe}
 use native.Mathlib.Omega.{arith}
 use Rattle.lengths.specs.declared.Length.{Length}
 use Rattle.lengths.specs.Order.{over, _⊑_}
+use Rattle.lengths.specs.Keys.{key, diagonalOf, pair}
 use Rattle.lengths.proofs.Order.{length-ext, both-less, sq-zero, ⊑-antisym}
-
--- the key of a straight and of a diagonal step
-abbrev pub straightKey : ℕ
-straightKey = 13860
-
-abbrev pub diagonalKey : ℕ
-diagonalKey = 19601
-
--- the key of a length
-abbrev pub key : Length → ℕ
-key a = straightKey * a .straight + diagonalKey * a .diagonal
-
--- the diagonal part of a key: 19601 is its own inverse modulo 13860
-abbrev pub diagonalOf : ℕ → ℕ
-diagonalOf k = k % straightKey * diagonalKey % straightKey
-
--- the straight part of a key
-abbrev pub straightOf : ℕ → ℕ
-straightOf k = (k - diagonalKey * diagonalOf k) / straightKey
-
--- the length of a key
-abbrev pub pair : ℕ → Length
-pair k = record { straight = straightOf k; diagonal = diagonalOf k }
 
 -- p straight steps that are not more than r diagonal ones by key are not more by square
 under : (p r : ℕ) → p < 19601 → 13860 * p ≤ 19601 * r → p * p ≤ 2 * (r * r)

@@ -1,60 +1,49 @@
 -- What the tests of a length and of a cell size show of what they let pass.
--- Assumes nothing.
 use mathlib.Core.Path.{_≡_}
-use mathlib.Core.Bool.{true, false}
-use Prim.Native.Nat.{ℕ, _≤_}
+use mathlib.Core.Bool.{false}
+use Prim.Native.Nat.{ℕ, _*_, _≤_}
+use native.Mathlib.Nat.{mul-le-mul}
 use native.Mathlib.Omega.{arith}
 use lib.Dec.{ltb}
 use borrow.Author.Tests.{ltb-false, le-ltb}
-use Rattle.given.proofs.Picked.{pick-else, pick-then, either-false}
+use Rattle.given.specs.declared.Tested.{Tested}
+use Rattle.given.specs.declared.Tested.the-variants.{Passed}
+use Rattle.given.specs.Refusing.{firstOf}
+use Rattle.given.proofs.Bools.{either-false}
+use Rattle.given.proofs.Refusals.{all-passed, has-passed, refuse-passed}
 use Rattle.lengths.specs.declared.Length.{Length}
-use Rattle.lengths.specs.declared.Parts.the-variants as parts
-use Rattle.lengths.specs.declared.Size.the-variants as size
-use Rattle.lengths.specs.Answers.{partAbove, sizeOutside}
-use Rattle.lengths.specs.Inner.{partsOf, sizeOf, Within}
+use Rattle.lengths.specs.Answers.{wayPart, partAbove, sizeOutside, compareTests, distanceTests}
+use Rattle.lengths.specs.Inner.{AtMost, Within}
 
 -- the test of the parts, and their limits
-pub small-parts : (l : Length) → partAbove l ≡ false → Within l
+pub small-parts : (limit : ℕ) (l : Length) → partAbove limit l ≡ false → AtMost limit l
 unfolding partAbove
-small-parts l t =
-    let (s, d) = either-false (ltb 16383 (l .straight)) (ltb 16383 (l .diagonal)) t in
-    record { straight = ltb-false 16383 (l .straight) s; diagonal = ltb-false 16383 (l .diagonal) d }
+small-parts limit l t =
+    let (s, d) = either-false (ltb limit (l .straight)) (ltb limit (l .diagonal)) t in
+    record { straight = ltb-false limit (l .straight) s; diagonal = ltb-false limit (l .diagonal) d }
 
-pub parts-small : (l : Length) → Within l → partAbove l ≡ false
+pub parts-small : (limit : ℕ) (l : Length) → AtMost limit l → partAbove limit l ≡ false
 unfolding partAbove
-parts-small l w = rw (le-ltb 16383 (l .straight) (w .straight), le-ltb 16383 (l .diagonal) (w .diagonal))
+parts-small limit l w = rw (le-ltb limit (l .straight) (w .straight), le-ltb limit (l .diagonal) (w .diagonal))
 
-apart : {l : Length} → parts.Above ≡ parts.Within l → ⊥
-apart e = let z : _≡_ {A = ℕ} 0 1 = cc in omega arith
+pub small-size : (size : ℕ) → sizeOutside size ≡ false → size ≤ 1000
+unfolding sizeOutside
+small-size size t = let (s, d) = either-false (ltb size 1) (ltb 1000 size) t in ltb-false 1000 size d
 
-pub parts-above : (l : Length) → partsOf l ≡ parts.Above → partAbove l ≡ true
-unfolding partsOf
-parts-above l e = pick-then (partAbove l) parts.Above (parts.Within l) parts.Above e (λ f. let z : _≡_ {A = ℕ} 0 1 = cc in omega arith) .0
+-- no test of a comparison refused
+pub both-within : (a b : Length) (r : Tested) → r ≡ firstOf (compareTests a b) → r ≡ Passed → Within a × Within b
+both-within a b r e p =
+    let all = all-passed (compareTests a b) (has-passed r e p) in
+    (small-parts wayPart a (refuse-passed 12 _ (search)), small-parts wayPart b (refuse-passed 12 _ (search)))
 
--- a length that passes is the one that was tested, and its parts are small
-pub record Passed (l k : Length) : Type 0 where
-  pub same : l ≡ k
-  pub test : partAbove l ≡ false
-  pub within : Within l
+-- no test of a distance refused, so the cell size times each part is small
+pub record Small (size : ℕ) (l : Length) : Type 0 where
+  pub straight : size * l .straight ≤ 1000 * wayPart
+  pub diagonal : size * l .diagonal ≤ 1000 * wayPart
 
-pub parts-within : (l k : Length) → partsOf l ≡ parts.Within k → Passed l k
-unfolding partsOf
-parts-within l k e =
-    let (t, f) = pick-else (partAbove l) parts.Above (parts.Within l) (parts.Within k) e apart in
-    record { same = cc; test = t; within = small-parts l t }
-
-pub size-outside : (n : ℕ) → sizeOf n ≡ size.Outside → sizeOutside n ≡ true
-unfolding sizeOf
-size-outside n e = pick-then (sizeOutside n) size.Outside (size.Within n) size.Outside e (λ f. let z : _≡_ {A = ℕ} 0 1 = cc in omega arith) .0
-
-pub record Sized (n k : ℕ) : Type 0 where
-  pub same : n ≡ k
-  pub test : sizeOutside n ≡ false
-  pub most : n ≤ 1000
-
-pub size-within : (n k : ℕ) → sizeOf n ≡ size.Within k → Sized n k
-unfolding sizeOf sizeOutside
-size-within n k e =
-    let (t, f) = pick-else (sizeOutside n) size.Outside (size.Within n) (size.Within k) e (λ f. let z : _≡_ {A = ℕ} 0 1 = cc in omega arith) in
-    let (s, d) = either-false (ltb n 1) (ltb 1000 n) t in
-    record { same = cc; test = t; most = ltb-false 1000 n d }
+pub small-products : (size : ℕ) (l : Length) (r : Tested) → r ≡ firstOf (distanceTests size l) → r ≡ Passed → Small size l
+small-products size l r e p =
+    let all = all-passed (distanceTests size l) (has-passed r e p) in
+    let w = small-parts wayPart l (refuse-passed 12 _ (search)) in
+    let s = small-size size (refuse-passed 13 _ (search)) in
+    record { straight = omega (arith, mul-le-mul s (w .straight)); diagonal = omega (arith, mul-le-mul s (w .diagonal)) }

@@ -2,3 +2,4 @@ pub mod Order
 pub mod Distance
 pub mod Answers
 pub mod Inner
+pub mod Keys

@@ -2,10 +2,13 @@
 // straight + diagonal × √2; it is compared and rounded exactly, over whole numbers.
 ghost use mathlib.Core.Path.{_≡_};
 ghost use Prim.Native.Nat.{_+_, _*_, _-_, _≤_};
+ghost use Rattle.given.specs.Refusing.{refuse, firstOf};
 ghost use Rattle.lengths.specs.Order.{over, shorter as shorterOf};
 ghost use Rattle.lengths.specs.Distance.{Nearest};
-ghost use Rattle.lengths.specs.Answers.{comparedGives, Compares, distanceGives, Speaks};
-ghost use Rattle.lengths.specs.Inner.{partsOf, sizeOf, Within};
+ghost use Rattle.lengths.specs.Answers.{wayPart, partAbove, sizeOutside, compareTests, Compares, distanceTests, Speaks};
+ghost use Rattle.lengths.specs.Inner.{Within};
+use given::Refusal;
+use given::Tested;
 
 // A length: straight steps, diagonal steps.
 pub struct Length {
@@ -13,55 +16,76 @@ pub struct Length {
     pub diagonal: u32,
 }
 
-// What comparing answers: first shorter, first not shorter, or the refusal's number.
+// What comparing answers: first shorter, first not shorter, or a refusal.
 pub enum Compared {
     Shorter,
     NotShorter,
-    Refused(u8),
+    Refused(Refusal),
 }
 
-// What the distance answers: its centimetres, or the refusal's number.
+// What the distance answers: its centimetres, or a refusal.
 pub enum Distance {
     Centimetres(u32),
-    Refused(u8),
+    Refused(Refusal),
 }
 
-// A length whose parts are within the limit, or the news that one is above it.
-pub enum Parts {
-    Within(Length),
-    Above,
-}
+// The most steps of a kind that a length has.
+const WAY_PART: u32 = 16383;
 
-// A cell size from 1 to 1,000 centimetres, or the news that it is outside.
-pub enum Size {
-    Within(u32),
-    Outside,
-}
+// What a straight and a diagonal step weigh in a key, one number for a length that orders lengths as their exact
+// values do.
+pub const STRAIGHT_KEY: u32 = 13860;
 
-// Whether both parts are at most 16,383.
-fn test_parts(l: Length) -> Parts
-    ensures { λ r. ⌜ r ≡ partsOf l ⌝ }
+pub const DIAGONAL_KEY: u32 = 19601;
+
+// 12: both parts are at most the limit.
+fn test_parts(limit: u32, l: Length) -> Tested
+    ensures { λ r. ⌜ r ≡ refuse 12 (partAbove limit l) ⌝ }
 {
-    if 16383 < l.straight {
-        return Parts::Above;
+    if limit < l.straight {
+        return given::refuse_if(12, true);
     }
-    if 16383 < l.diagonal {
-        return Parts::Above;
-    }
-    Parts::Within(l)
+    given::refuse_if(12, limit < l.diagonal)
 }
 
-// Whether the cell size is 1 to 1,000.
-fn test_size(size: u32) -> Size
-    ensures { λ r. ⌜ r ≡ sizeOf size ⌝ }
+// 13: the cell size is 1 to 1,000.
+pub fn test_size(size: usize) -> Tested
+    ensures { λ r. ⌜ r ≡ refuse 13 (sizeOutside size) ⌝ }
 {
     if size < 1 {
-        return Size::Outside;
+        return given::refuse_if(13, true);
     }
-    if 1000 < size {
-        return Size::Outside;
-    }
-    Size::Within(size)
+    given::refuse_if(13, 1000 < size)
+}
+
+// 12 of either length.
+fn test_lengths(a: Length, b: Length) -> Tested
+    ensures { λ r. ⌜ r ≡ firstOf (compareTests a b) ⌝ }
+{
+    let first = test_parts(WAY_PART, a);
+    let Tested::Passed = first else {
+        return first;
+    };
+    let second = test_parts(WAY_PART, b);
+    let Tested::Passed = second else {
+        return second;
+    };
+    Tested::Passed
+}
+
+// 12, 13, in this order.
+fn test_distance(size: u32, l: Length) -> Tested
+    ensures { λ r. ⌜ r ≡ firstOf (distanceTests size l) ⌝ }
+{
+    let parts = test_parts(WAY_PART, l);
+    let Tested::Passed = parts else {
+        return parts;
+    };
+    let sized = test_size(size as usize);
+    let Tested::Passed = sized else {
+        return sized;
+    };
+    Tested::Passed
 }
 
 // What x has above y.
@@ -72,7 +96,7 @@ fn above(x: u32, y: u32) -> u64
 }
 
 fn square(x: u64) -> u64
-    requires { ⌜ x ≤ 16383 ⌝ }
+    requires { ⌜ x ≤ wayPart ⌝ }
     ensures { λ r. ⌜ (r ≡ x * x) × (r ≤ 268402689) ⌝ }
 {
     x * x
@@ -97,17 +121,15 @@ pub fn shorter(a: Length, b: Length) -> bool
     excess(a, b) < excess(b, a)
 }
 
-// Comparing: first shorter, or first not shorter; 12 for a part above 16,383.
+// Comparing: first shorter, or first not shorter. Refusal: 12.
 pub fn compare(a: Length, b: Length) -> Compared
-    ensures { λ r. ⌜ Compares a b (comparedGives r) ⌝ }
+    ensures { λ r. ⌜ Compares a b r ⌝ }
 {
-    let Parts::Within(first) = test_parts(a) else {
-        return Compared::Refused(12);
+    let tested = test_lengths(a, b);
+    let Tested::Passed = tested else {
+        return Compared::Refused(given::refusal_of(tested));
     };
-    let Parts::Within(second) = test_parts(b) else {
-        return Compared::Refused(12);
-    };
-    if shorter(first, second) {
+    if shorter(a, b) {
         return Compared::Shorter;
     }
     Compared::NotShorter
@@ -115,7 +137,7 @@ pub fn compare(a: Length, b: Length) -> Compared
 
 // The whole number nearest to m√2, by halving.
 fn nearest(m: u64) -> u64
-    requires { ⌜ m ≤ 16383000 ⌝ }
+    requires { ⌜ m ≤ 1000 * wayPart ⌝ }
     ensures { λ r. ⌜ (Nearest m r) × (r ≤ 2 * m) ⌝ }
 {
     let eight = 8 * (m * m);
@@ -133,16 +155,14 @@ fn nearest(m: u64) -> u64
     low
 }
 
-// The distance spoken: the whole number of centimetres nearest to the exact length; 12, then 13.
+// The distance spoken: the whole number of centimetres nearest to the exact length. Refusals: 12, 13.
 pub fn distance_spoken(size: u32, l: Length) -> Distance
-    ensures { λ r. ⌜ Speaks size l (distanceGives r) ⌝ }
+    ensures { λ r. ⌜ Speaks size l r ⌝ }
 {
-    let Parts::Within(length) = test_parts(l) else {
-        return Distance::Refused(12);
+    let tested = test_distance(size, l);
+    let Tested::Passed = tested else {
+        return Distance::Refused(given::refusal_of(tested));
     };
-    let Size::Within(each) = test_size(size) else {
-        return Distance::Refused(13);
-    };
-    let part = nearest(each as u64 * length.diagonal as u64);
-    Distance::Centimetres(each * length.straight + part as u32)
+    let part = nearest(size as u64 * l.diagonal as u64);
+    Distance::Centimetres(size * l.straight + part as u32)
 }

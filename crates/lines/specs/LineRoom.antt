@@ -1,5 +1,4 @@
 -- The room that any line takes.
--- Assumes nothing.
 use Prim.Native.Nat.{ℕ}
 
 -- room for any line: a number, five fields, the headings and counts of 16,383 legs, and a newline

@@ -1,17 +1,15 @@
 -- What the parts of a line leave in the buffer.
--- Assumes nothing.
 use mathlib.Core.List.{List, [], _∷_}
 use Prim.Native.Nat.{ℕ, _+_, _*_, _≤_}
 use lib.ListN.{length, take}
+use Rattle.given.specs.declared.Refusal.{Refusal}
 use Rattle.lengths.specs.Distance.{Spoken}
 use Rattle.lengths.specs.Inner.{Within}
 use Rattle.walking.specs.declared.Way.{Way}
 use Rattle.route.specs.declared.Answer.{Answer}
 use Rattle.route.specs.declared.Answer.the-variants as answer
-use Rattle.text.specs.Text.{line, wordLine, floorWord}
+use Rattle.text.specs.Text.{line}
 use Rattle.text.specs.Put.{Put}
-use Rattle.lines.specs.declared.Head.{Head}
-use Rattle.lines.specs.declared.Head.the-variants as head
 use Rattle.lines.specs.LineRoom.{lineRoom}
 
 -- room for a number and five fields
@@ -53,10 +51,4 @@ wayNumbers number centimetres w legs =
 pub data AnswerLine (size number : ℕ) (legs : List ℕ) : Answer → List ℕ → Type 0 where
   way : (w : Way) (centimetres : ℕ) → Spoken size (w .length) centimetres
       → AnswerLine size number legs (answer.Way w) (line (wayNumbers number centimetres w legs))
-  refused : (n place : ℕ) → AnswerLine size number legs (answer.Refused (record { number = n; place = place })) (line (number ∷ n ∷ []))
-
--- the first line
-abbrev pub headLine : Head → List ℕ
-headLine (head.Broken at) = line (14 ∷ at ∷ [])
-headLine (head.Refused n) = line (n ∷ [])
-headLine (head.Floor p) = wordLine floorWord (p .width ∷ p .height ∷ p .size ∷ [])
+  refused : (f : Refusal) → AnswerLine size number legs (answer.Refused f) (line (number ∷ f .number ∷ []))

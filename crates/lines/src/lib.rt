@@ -1,4 +1,5 @@
-// The lines that "ways" prints, each written as bytes into a lent buffer: what the first line says, and the line of a query's answer.
+// The lines that "ways" prints, each written as bytes into a lent buffer: what the first line says, and the line of a
+// query's answer.
 ghost use mathlib.Core.Path.{_≡_};
 ghost use mathlib.Core.Bool.{false};
 ghost use mathlib.Core.List.{[], _∷_};
@@ -10,17 +11,18 @@ ghost use Rattle.lengths.specs.Inner.{Within};
 ghost use Rattle.text.specs.Text.{fields, line};
 ghost use Rattle.text.specs.Put.{Put};
 ghost use Rattle.lines.specs.declared.Head.the-variants as head;
+ghost use Rattle.lines.specs.Head.{headLine};
 ghost use Rattle.lines.specs.LineRoom.{lineRoom};
-ghost use Rattle.lines.specs.Written.{lengthRoom, PutLine, Writes, WayFits, Fits, lengthNumbers, wayNumbers, AnswerLine, headLine};
+ghost use Rattle.lines.specs.Written.{lengthRoom, PutLine, Writes, WayFits, Fits, lengthNumbers, wayNumbers, AnswerLine};
+use given::Refusal;
 use lengths::Distance;
 use plan::Plan;
 use route::Answer;
 use walking::Way;
 
-// What the first line says: the place of a break, a refusal's number, or the floor.
+// What the first line says: a refusal, or the floor.
 pub enum Head {
-    Broken(usize),
-    Refused(usize),
+    Refused(Refusal),
     Floor(Plan),
 }
 
@@ -72,7 +74,8 @@ fn put_length(out: &mut [u8], at: usize, number: usize, centimetres: u32, way: W
     text::put_field(out, spoken, way.legs)
 }
 
-// Writes the line of a way: the query's number, 0, straight, diagonal, centimetres, leg count, then heading and count of each leg.
+// Writes the line of a way: the query's number, 0, straight, diagonal, centimetres, leg count, then heading and count
+// of each leg.
 fn put_way(
     out: &mut [u8],
     at: usize,
@@ -122,14 +125,24 @@ pub fn put_answer(
     }
 }
 
+// Writes the line of a refusal: its number, and with 14 the offset.
+fn put_refusal(out: &mut [u8], at: usize, refusal: Refusal) -> usize
+    requires { ⌜ at + lineRoom ≤ length (now out) ⌝ }
+    ensures { λ r. ⌜ PutLine (now (out .entry)) at (headLine (head.Refused refusal)) (now (out .exit)) r ⌝ }
+{
+    if refusal.number == 14 {
+        return put_two(out, at, refusal.number as usize, refusal.place);
+    }
+    put_one(out, at, refusal.number as usize)
+}
+
 // Writes the first line.
 pub fn put_head(out: &mut [u8], at: usize, head: Head) -> usize
     requires { ⌜ at + lineRoom ≤ length (now out) ⌝ }
     ensures { λ r. ⌜ PutLine (now (out .entry)) at (headLine head) (now (out .exit)) r ⌝ }
 {
     match head {
-        Head::Broken(place) => put_two(out, at, 14, place),
-        Head::Refused(n) => put_one(out, at, n),
+        Head::Refused(refusal) => put_refusal(out, at, refusal),
         Head::Floor(plan) => put_floor(out, at, plan),
     }
 }

@@ -1,5 +1,5 @@
--- The table of the numbers of four cells: that a table is one, by one test that is computed over all its entries; and the bits of a byte by its
--- four-bit parts.
+-- The table of the numbers of four cells: that a table is one, by one test that is computed over all its entries; and
+-- the bits of a byte by its four-bit parts.
 use mathlib.Core.Path.{_≡_, ap, _∙_}
 use mathlib.Core.Bool.{Bool, true}
 use mathlib.Core.List.{List, []}
@@ -8,9 +8,10 @@ use native.Mathlib.Omega.{arith}
 use lib.ListN.{getD, length}
 use lib.Dec.{eqb}
 use borrow.Author.Tests.{eqb-true}
-use Rattle.floor.specs.Floor.{bit, both}
+use Rattle.given.specs.Bools.{both}
+use Rattle.floor.specs.Floor.{bit}
 use Rattle.floor.proofs.Entries.{every, entry}
-use Rattle.floor.proofs.Joined.{both-true}
+use Rattle.given.proofs.Bools.{both-true}
 use Rattle.offers.specs.Work.{unreached, at}
 use Rattle.loading.specs.Load.{Fours}
 

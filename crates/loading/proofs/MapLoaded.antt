@@ -1,4 +1,5 @@
--- The map's bytes in the work array: each cell's place has the number of its bit, and all places between and around the rows stay blocked.
+-- The map's bytes in the work array: each cell's place has the number of its bit, and all places between and around the
+-- rows stay blocked.
 use mathlib.Core.Path.{_≡_, refl, ap₂, sym, subst, subst₂, _∙_}
 use mathlib.Core.Bool.{Bool, true, false, not}
 use mathlib.Core.List.{List}
@@ -9,11 +10,12 @@ use native.Mathlib.Decide.{decLe, ℕ-discrete}
 use lib.ListN.{getD, length, set, length-set}
 use lib.Dec.{ltb, eqb}
 use borrow.Author.Tests.{lt-ltb, le-ltb}
-use Rattle.floor.specs.Floor.{Map, bytesPerRow, bit, blocked, open?, both}
+use Rattle.given.specs.Bools.{both}
+use Rattle.floor.specs.Floor.{Map, bytesPerRow, bit, blocked, open?}
 use Rattle.steps.specs.Leading.{openPast}
 use Rattle.floor.specs.Inner.{Sound}
 use Rattle.offers.specs.Work.{unreached, stride, at, spot}
-use Rattle.loading.specs.Load.{numberOf, loaded, Run, Prefix, Cleared, Tall}
+use Rattle.loading.specs.Load.{numberOf, loaded, ByteRun, Prefix, Cleared, Tall}
 use Rattle.offers.proofs.Changed.{waiting-set, waiting-none}
 use Rattle.entries.proofs.Lists.{each}
 use Rattle.loading.proofs.Kept.{CellsLoaded, BitsLoaded, RowsLoaded}
@@ -121,7 +123,7 @@ module _ (m : Map) (s : Sound m) where
       by (no p) = i .done z (omega arith)
 
   -- the byte of a run stands in the map
-  pub byte-inside : (r c count : ℕ) → Run m r c count → r * bytesPerRow (m .width) + c / 8 < length (m .bytes)
+  pub byte-inside : (r c count : ℕ) → ByteRun m r c count → r * bytesPerRow (m .width) + c / 8 < length (m .bytes)
   byte-inside r c count u = omega (arith, s .size, u .column, mul-le-mul-right (bytesPerRow (m .width)) (u .row))
 
   -- cell after cell of a byte
@@ -135,7 +137,7 @@ module _ (m : Map) (s : Sound m) where
   }
 
   pub bits-more :
-      (x₀ : List ℕ) (c r count i n : ℕ) (x : List ℕ) → Run m r c count → BitsLoaded m x₀ c r count i x → i < count
+      (x₀ : List ℕ) (c r count i n : ℕ) (x : List ℕ) → ByteRun m r c count → BitsLoaded m x₀ c r count i x → i < count
       → n ≡ (1 - bit i (getD (m .bytes) (r * bytesPerRow (m .width) + c / 8) 0)) * unreached
       → BitsLoaded m x₀ c r count (i + 1) (set x ((r + 1) * stride + c + 1 + i) n)
   bits-more x₀ c r count i n x u b less e =
@@ -152,7 +154,7 @@ module _ (m : Map) (s : Sound m) where
       }
 
 -- none of a byte's cells, and all of them
-pub bits-none : (m : Map) (x : List ℕ) (c r count : ℕ) → Run m r c count → Prefix m c r x → BitsLoaded m x c r count 0 x
+pub bits-none : (m : Map) (x : List ℕ) (c r count : ℕ) → ByteRun m r c count → Prefix m c r x → BitsLoaded m x c r count 0 x
 bits-none m x c r count u p =
     let e : c ≡ c + 0 = omega arith in
     record {

@@ -1,5 +1,4 @@
 -- The map's bytes in the work array, place after place.
--- Assumes nothing.
 use mathlib.Core.Path.{_≡_}
 use mathlib.Core.Bool.{Bool, true, false}
 use mathlib.Core.List.{List, []}
@@ -24,7 +23,7 @@ pub record Fours (t : List (List ℕ)) : Type 0 where
   pub entry : (q k : ℕ) → q < 16 → k < 4 → at (getD t q []) k ≡ (1 - bit k q) * unreached
 
 -- cells of one byte of an accepted floor's map: count of them, from column c of row r on
-pub record Run (m : Map) (r c count : ℕ) : Type 0 where
+pub record ByteRun (m : Map) (r c count : ℕ) : Type 0 where
   pub sound : Sound m
   pub row : r < m .height
   pub aligned : c % 8 ≡ 0
@@ -36,7 +35,8 @@ pub record Run (m : Map) (r c count : ℕ) : Type 0 where
 pub record Tall (m : Map) (x : List ℕ) : Type 0 where
   pub rows : (m .height + 2) * stride ≤ length x
 
--- the rows before r are loaded and the cells of row r before column c, the other places are blocked, and no more cells wait than were loaded
+-- the rows before r are loaded and the cells of row r before column c, the other places are blocked, and no more cells
+-- wait than were loaded
 pub record Prefix (m : Map) (c r : ℕ) (x : List ℕ) : Type 0 where
   pub tall : Tall m x
   pub done : (z : ℕ) → z < spot c r → at x z ≡ loaded m z

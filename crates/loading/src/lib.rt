@@ -4,11 +4,12 @@ ghost use Prim.Native.Nat.{_+_, _-_, _*_, _<_};
 ghost use Rattle.floor.specs.Floor.{mapOf, bit};
 ghost use Rattle.floor.specs.Inner.{Sound};
 ghost use Rattle.offers.specs.Work.{unreached};
-ghost use Rattle.loading.specs.Load.{Fours, Run, Prefix};
+ghost use Rattle.loading.specs.Load.{Fours, ByteRun, Prefix};
 use offers::STRIDE;
 use offers::UNREACHED;
 
-// The numbers of four cells, for each value of the four bits of their map, lowest bit first: UNREACHED where the bit is clear, else 0.
+// The numbers of four cells, for each value of the four bits of their map, lowest bit first: UNREACHED where the bit is
+// clear, else 0.
 const FOURS: [[u32; 4]; 16] = [
     [UNREACHED, UNREACHED, UNREACHED, UNREACHED],
     [0, UNREACHED, UNREACHED, UNREACHED],
@@ -48,7 +49,7 @@ fn load_byte(
     column: usize,
     count: usize,
 )
-    requires { ⌜ Run (mapOf width height (now map)) row column count ⌝ }
+    requires { ⌜ ByteRun (mapOf width height (now map)) row column count ⌝ }
     requires { ⌜ Prefix (mapOf width height (now map)) column row (now work) ⌝ }
     requires { ⌜ Fours (now fours) ⌝ }
     ensures { λ r. ⌜ Prefix (mapOf width height (now (map .entry))) (column + count) row (now (work .exit)) ⌝ }
@@ -87,7 +88,8 @@ fn load_row(
     }
 }
 
-// The floor's cells, row after row; the border stays blocked. The table is made here, once: a constant is copied wherever it is read.
+// The floor's cells, row after row; the border stays blocked. The table is made here, once: a constant is copied
+// wherever it is read.
 pub fn load_map(work: &mut [u32], width: usize, height: usize, map: &[u8])
     requires { ⌜ Sound (mapOf width height (now map)) ⌝ }
     requires { ⌜ Prefix (mapOf width height (now map)) 0 0 (now work) ⌝ }

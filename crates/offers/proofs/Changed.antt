@@ -6,7 +6,7 @@ use native.Mathlib.Omega.{arith}
 use native.Mathlib.Decide.{decLe}
 use lib.ListN.{length, set, length-set, List·getD-eq-default}
 use lib.Seq.{set-out}
-use Rattle.offers.specs.Work.{unreached, at, waiting, Room}
+use Rattle.offers.specs.Work.{unreached, at, waiting, QueueRoom}
 use Rattle.offers.specs.Taken.{Lowered, OfferMade}
 
 -- how many wait
@@ -23,7 +23,7 @@ waiting-none (v ∷ x) k = omega (arith, k 0, waiting-none x (λ z. k (suc z)))
 
 -- the queue grows by the cells that no longer wait
 pub room-offer :
-    (x q : List ℕ) (t a b : ℕ) → b ≤ at x a → Room x q t → Room (set x a b) (set q t a) (t + (at x a / unreached - b / unreached))
+    (x q : List ℕ) (t a b : ℕ) → b ≤ at x a → QueueRoom x q t → QueueRoom (set x a b) (set q t a) (t + (at x a / unreached - b / unreached))
 room-offer x q t a b le r = record {
   few = omega (arith, length-set x a b, r .few);
   narrow = omega (arith, length-set q t a, r .narrow);
@@ -37,8 +37,9 @@ room-offer x q t a b le r = record {
         let e : at x a ≡ 0 = List·getD-eq-default x 0 k in
         omega (arith, length-set q t a, r .enough, ap waiting (set-out x a b k))
 
--- a place that was lowered was offered the number, if the queue's end moves on where the cell was not reached and now is
-pub lowered-made : (a c t : ℕ) (x q x′ q′ : List ℕ) (v t′ : ℕ) → Room x q t → Lowered a c t x q x′ q′ v
+-- a place that was lowered was offered the number, if the queue's end moves on where the cell was not reached and now
+-- is
+pub lowered-made : (a c t : ℕ) (x q x′ q′ : List ℕ) (v t′ : ℕ) → QueueRoom x q t → Lowered a c t x q x′ q′ v
     → t′ ≡ t + (v / unreached - min c v / unreached) → OfferMade a c t x q x′ q′ t′
 lowered-made a c t x q x′ q′ v t′ r l e =
     let end = e ∙ ap (λ (k : ℕ). t + (k / unreached - min c k / unreached)) (l .before) in

@@ -5,10 +5,10 @@ use Prim.Native.Nat.{ℕ, _<_}
 use native.Mathlib.Omega.{arith}
 use lib.ListN.{length}
 use Rattle.steps.proofs.Headings.{changes-of}
-use Rattle.offers.specs.Work.{at, Inside, target}
+use Rattle.offers.specs.Work.{at, OffBorder, target}
 
 -- a heading leads from a place that is not on the border to one of the array
-pub in-work : (x : List ℕ) (p h : ℕ) → h < 8 → Inside x p → target p h < length x
+pub in-work : (x : List ℕ) (p h : ℕ) → h < 8 → OffBorder x p → target p h < length x
 in-work x p h b inside = omega (arith, inside, changes-of h b)
 
 -- a place is open by any name

@@ -1,17 +1,18 @@
--- Steps out of one cell, one after another: north, and then in each turn the straight step after a diagonal one and the diagonal one.
+-- Steps out of one cell, one after another: north, and then in each turn the straight step after a diagonal one and the
+-- diagonal one.
 use mathlib.Core.Path.{_≡_, refl, ap, sym, subst, _∙_}
 use mathlib.Core.Logic.{_⊎_, inl, inr, _≢_}
 use mathlib.Core.List.{List}
 use Prim.Native.Nat.{ℕ, _+_, _%_, _≤_, _<_}
 use native.Mathlib.Omega.{arith}
 use native.Mathlib.Decide.{ℕ-discrete}
-use Rattle.offers.specs.Work.{span, stepped, at, target, WorkStep, Room}
+use Rattle.offers.specs.Work.{span, stepped, at, target, WorkStep, QueueRoom}
 use Rattle.offers.specs.Wave.{Wave, Falls}
-use Rattle.offers.specs.Taken.{OfferMade, Masks, SideStep, SideAfter, Past, Offered, TakenLeft}
+use Rattle.offers.specs.Taken.{OfferMade, Masks, SideStep, SideAfter, PastSides, Offered, TakenLeft}
 use Rattle.offers.proofs.Changed.{made-size}
-use Rattle.offers.proofs.Kept.{Ready, Begun, Headings}
+use Rattle.offers.proofs.Kept.{MayStep, NorthTaken, Headings}
 use Rattle.offers.proofs.Numbers.{like}
-use Rattle.offers.proofs.OneStep.{Fits, inside, one-step, straight-fits}
+use Rattle.offers.proofs.OneStep.{OfferFits, inside, one-step, straight-fits}
 use Rattle.offers.proofs.SideCells.{mask-read, diagonal-fits}
 
 pub falls-none : (w : Wave) (x q : List ℕ) → Falls w x q x q
@@ -26,12 +27,12 @@ falls-more w x q x′ q′ x″ q″ f k = record {
 }
 
 -- the steps of the headings that are old were taken, and then others
-module _ (w : Wave) (Old : ℕ → Type 0) (p t : ℕ) (x₀ q₀ x q : List ℕ) (t′ : ℕ) (o : Ready w x₀ q₀ t p) (a : Offered w Old p x₀ q₀ x q t′) where
+module _ (w : Wave) (Old : ℕ → Type 0) (p t : ℕ) (x₀ q₀ x q : List ℕ) (t′ : ℕ) (o : MayStep w x₀ q₀ t p) (a : Offered w Old p x₀ q₀ x q t′) where
   same : at x p ≡ at x₀ p
   same = a .falls .keep p (o .cell .near)
 
   -- the cell may go on
-  ready : Ready w x q t′ p
+  ready : MayStep w x q t′ p
   ready = let e = same in let c = o .cell in
       record {
         going = a .going;
@@ -52,7 +53,7 @@ module _ (w : Wave) (Old : ℕ → Type 0) (p t : ℕ) (x₀ q₀ x q : List ℕ
       by j z s (inr k) = omega (arith, m .done j z k s, ap (stepped j) same)
 
   -- then the step h
-  step-more : (All : ℕ → Type 0) (h c : ℕ) (x′ q′ : List ℕ) (t″ : ℕ) → h < 8 → OfferMade (target p h) c t′ x q x′ q′ t″ → Fits x p h c
+  step-more : (All : ℕ → Type 0) (h c : ℕ) (x′ q′ : List ℕ) (t″ : ℕ) → h < 8 → OfferMade (target p h) c t′ x q x′ q′ t″ → OfferFits x p h c
       → ((j : ℕ) → All j → j ≢ h → Old j) → Offered w All p x₀ q₀ x′ q′ t″
   step-more All h c x′ q′ t″ b made fits cover =
       offered-more (λ j. j ≡ h) All x′ q′ t″ (one-step w x q t′ p h c x′ q′ t″ b made ready fits) (λ j l k. by j k (ℕ-discrete j h))
@@ -62,7 +63,7 @@ module _ (w : Wave) (Old : ℕ → Type 0) (p t : ℕ) (x₀ q₀ x q : List ℕ
       by j k (no e) = inl (cover j k e)
 
 module _ (p v north t : ℕ) (x₀ q₀ : List ℕ) where
-  pub headings-none : Room x₀ q₀ t → Headings p v north t x₀ q₀ north 1 x₀ q₀ t
+  pub headings-none : QueueRoom x₀ q₀ t → Headings p v north t x₀ q₀ north 1 x₀ q₀ t
   headings-none room = record {
     inside = omega arith;
     odd = refl;
@@ -76,7 +77,7 @@ module _ (p v north t : ℕ) (x₀ q₀ : List ℕ) where
   module _ (side h : ℕ) (x q : List ℕ) (t′ : ℕ) (i : Headings p v north t x₀ q₀ side h x q t′) (b : h < 8)
       (straight : ℕ) (sum : straight ≡ v + span) (other : ℕ) (x′ q′ : List ℕ) (t″ : ℕ)
       (s : SideAfter p h straight t′ north x q x′ q′ t″ other) where
-    ahead : (w : Wave) → Begun w x₀ q₀ t p v north → Masks (at (w .floor) (target p ((h + 1) % 8))) other
+    ahead : (w : Wave) → NorthTaken w x₀ q₀ t p v north → Masks (at (w .floor) (target p ((h + 1) % 8))) other
     ahead w o = by (ℕ-discrete h 7)
       where
         to : (j : ℕ) → j ≡ (h + 1) % 8 → Masks (at (w .floor) (target p j)) other → Masks (at (w .floor) (target p ((h + 1) % 8))) other
@@ -90,7 +91,7 @@ module _ (p v north t : ℕ) (x₀ q₀ : List ℕ) where
     abbrev Others : ℕ → Type 0
     Others j = (0 < j) × (j < h + 2) × (j ≢ h)
 
-    side-keeps : (w : Wave) → Begun w x₀ q₀ t p v north → Offered w Others p x₀ q₀ x′ q′ t″
+    side-keeps : (w : Wave) → NorthTaken w x₀ q₀ t p v north → Offered w Others p x₀ q₀ x′ q′ t″
     side-keeps w o = by (ℕ-discrete h 7) (i .keeps w o)
       where
         by : Dec (h ≡ 7) → Offered w (λ j. (0 < j) × (j < h)) p x₀ q₀ x q t′ → Offered w Others p x₀ q₀ x′ q′ t″
@@ -107,9 +108,9 @@ module _ (p v north t : ℕ) (x₀ q₀ : List ℕ) where
             (straight-fits w x q t′ p (h + 1) straight r known (omega (arith, i .odd)) (omega (arith, o .number)))
             (λ j k n. (k .0, omega (arith, k)))
 
-    module _ (cand c place : ℕ) (x″ q″ : List ℕ) (t‴ : ℕ) (slant : cand ≡ stepped 1 v) (past : Past cand side other c)
+    module _ (cand c place : ℕ) (x″ q″ : List ℕ) (t‴ : ℕ) (slant : cand ≡ stepped 1 v) (past : PastSides cand side other c)
         (to : place ≡ target p h) (made : OfferMade place c t″ x′ q′ x″ q″ t‴) where
-      more-keeps : (w : Wave) → Begun w x₀ q₀ t p v north → Offered w (λ j. (0 < j) × (j < h + 2)) p x₀ q₀ x″ q″ t‴
+      more-keeps : (w : Wave) → NorthTaken w x₀ q₀ t p v north → Offered w (λ j. (0 < j) × (j < h + 2)) p x₀ q₀ x″ q″ t‴
       more-keeps w o =
           let a = side-keeps w o in
           let e : v ≡ at x′ p = sym (same w Others p t x₀ q₀ x′ q′ t″ (o .ready) a ∙ o .number) in
@@ -138,7 +139,7 @@ headings-all p v north t straight x₀ q₀ x₁ q₁ t₁ side h x q t′ e sum
   keeps = λ w g small cell. keeps w (record { going = g; small = small; cell = cell });
 }
   where
-    keeps : (w : Wave) → Ready w x₀ q₀ t p → Offered w (λ j. j < 8) p x₀ q₀ x q t′
+    keeps : (w : Wave) → MayStep w x₀ q₀ t p → Offered w (λ j. j < 8) p x₀ q₀ x q t′
     keeps w o =
         let fits = straight-fits w x₀ q₀ t p 0 straight o (omega arith) refl (omega arith) in
         let a = one-step w x₀ q₀ t p 0 straight x₁ q₁ t₁ (omega arith) (first .offer) o fits in

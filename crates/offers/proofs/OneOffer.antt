@@ -7,8 +7,8 @@ use native.Mathlib.Omega.{arith}
 use native.Mathlib.Decide.{ℕ-discrete}
 use lib.ListN.{getD, length, set, length-set}
 use lib.Seq.{getD-set-same, getD-set-other}
-use Rattle.offers.specs.Work.{unreached, span, atGoal, stepped, highest, at, WorkStep, Room}
-use Rattle.offers.specs.Wave.{Wave, Support, Listed, Next, Going, Falls}
+use Rattle.offers.specs.Work.{unreached, span, atGoal, stepped, highest, at, WorkStep, QueueRoom}
+use Rattle.offers.specs.Wave.{Wave, Support, Listed, PastWave, Underway, Falls}
 use Rattle.offers.specs.Taken.{This}
 use Rattle.offers.proofs.Numbers.{stretch}
 use Rattle.entries.proofs.Lists.{each}
@@ -19,8 +19,8 @@ front q t a i h = getD-set-other q t i a 0 (omega arith)
 
 -- another queue does as well, if it is as long and has the same cells from where the wave began up to its end
 pub same-behind :
-    (w : Wave) (x q q′ : List ℕ) (t : ℕ) → Going w x q t → length q′ ≡ length q → ((i : ℕ) → w .end ≤ i → i < t → getD q′ i 0 ≡ getD q i 0)
-    → Going w x q′ t
+    (w : Wave) (x q q′ : List ℕ) (t : ℕ) → Underway w x q t → length q′ ≡ length q → ((i : ℕ) → w .end ≤ i → i < t → getD q′ i 0 ≡ getD q i 0)
+    → Underway w x q′ t
 same-behind w x q q′ t g size same = record {
   border = g .border;
   cells = g .cells;
@@ -35,12 +35,12 @@ same-behind w x q q′ t g size same = record {
   relaxed = g .relaxed;
   listed = λ z o f. let l = g .listed z o f in
       record { index = l .index; here = same (l .index) (l .after) (l .before) ∙ l .here; after = l .after; before = l .before };
-  queued = λ i m n. subst (Next w x) (sym (same i m n)) (g .queued i m n);
+  queued = λ i m n. subst (PastWave w x) (sym (same i m n)) (g .queued i m n);
 }
 
-module _ (w : Wave) (x q : List ℕ) (t a : ℕ) (g : Going w x q t) where
+module _ (w : Wave) (x q : List ℕ) (t a : ℕ) (g : Underway w x q t) where
   -- the queue's place after its end does not matter
-  pub idle : Going w x (set q t a) t
+  pub idle : Underway w x (set q t a) t
   idle = same-behind w x q (set q t a) t g (length-set q t a) (λ i m n. front q t a i n)
 
   pub idle-falls : Falls w x q x (set q t a)
@@ -123,8 +123,8 @@ module _ (w : Wave) (x q : List ℕ) (t a : ℕ) (g : Going w x q t) where
         omega (arith, falls c, g .relaxed j b c u (omega arith))
 
     -- all but what depends on the queue's end
-    common : (t′ : ℕ) → t ≤ t′ → Room x′ q′ t′ → ((z : ℕ) → at (w .before) z ≡ unreached → at x′ z < unreached → Listed q′ (w .end) t′ z)
-        → ((i : ℕ) → w .end ≤ i → i < t′ → Next w x′ (getD q′ i 0)) → Going w x′ q′ t′
+    common : (t′ : ℕ) → t ≤ t′ → QueueRoom x′ q′ t′ → ((z : ℕ) → at (w .before) z ≡ unreached → at x′ z < unreached → Listed q′ (w .end) t′ z)
+        → ((i : ℕ) → w .end ≤ i → i < t′ → PastWave w x′ (getD q′ i 0)) → Underway w x′ q′ t′
     common t′ le room listed queued = record {
       border = g .border;
       cells = length-set x a cand ∙ g .cells;
@@ -142,10 +142,10 @@ module _ (w : Wave) (x q : List ℕ) (t a : ℕ) (g : Going w x q t) where
       queued = queued;
     }
 
-    next-new : (z : ℕ) → Next w x z → Next w x′ z
+    next-new : (z : ℕ) → PastWave w x z → PastWave w x′ z
     next-new z r =
         let p =
-        new (λ i v. Next w x i → (w .limit ≤ v) × (v < unreached)) (λ r. (low, omega (arith, high))) (λ i e r. (r .after, r .found)) z r
+        new (λ i v. PastWave w x i → (w .limit ≤ v) × (v < unreached)) (λ r. (low, omega (arith, high))) (λ i e r. (r .after, r .found)) z r
         in
         record { after = p .0; found = p .1 }
 
@@ -158,15 +158,15 @@ module _ (w : Wave) (x q : List ℕ) (t a : ℕ) (g : Going w x q t) where
     }
 
     -- a cell that had a number already
-    pub lowered : at x a < unreached → Room x′ q′ t → Going w x′ q′ t
+    pub lowered : at x a < unreached → QueueRoom x′ q′ t → Underway w x′ q′ t
     lowered f room =
         common t (omega arith) room
         (new (λ i v. at (w .before) i ≡ unreached → v < unreached → Listed q′ (w .end) t i) (λ o k. again a t (omega arith) (g .listed a o f))
         (λ i e o k. again i t (omega arith) (g .listed i o k)))
-        (λ i l b. next-new _ (subst (Next w x) (sym (front q t a i b)) (g .queued i l b)))
+        (λ i l b. next-new _ (subst (PastWave w x) (sym (front q t a i b)) (g .queued i l b)))
 
     -- a cell that had none
-    pub fresh : at x a ≡ unreached → Room x′ q′ (t + 1) → Going w x′ q′ (t + 1)
+    pub fresh : at x a ≡ unreached → QueueRoom x′ q′ (t + 1) → Underway w x′ q′ (t + 1)
     fresh f room =
         common (t + 1) (omega arith) room
         (new (λ i v. at (w .before) i ≡ unreached → v < unreached → Listed q′ (w .end) (t + 1) i)
@@ -177,9 +177,9 @@ module _ (w : Wave) (x q : List ℕ) (t a : ℕ) (g : Going w x q t) where
         in-q : t < length q
         in-q = omega (arith, g .room .enough)
 
-        here : Next w x′ a
+        here : PastWave w x′ a
         here = let e : at x′ a ≡ cand = getD-set-same x a cand 0 in-x in record { after = omega (arith, low); found = omega (arith, high) }
 
-        on : (i : ℕ) → w .end ≤ i → i < t + 1 → Dec (i ≡ t) → Next w x′ (getD q′ i 0)
-        on i l b (yes e) = subst (Next w x′) (sym (ap (λ (j : ℕ). getD q′ j 0) e ∙ getD-set-same q t a 0 in-q)) here
-        on i l b (no e) = next-new _ (subst (Next w x) (sym (front q t a i (omega arith))) (g .queued i l (omega arith)))
+        on : (i : ℕ) → w .end ≤ i → i < t + 1 → Dec (i ≡ t) → PastWave w x′ (getD q′ i 0)
+        on i l b (yes e) = subst (PastWave w x′) (sym (ap (λ (j : ℕ). getD q′ j 0) e ∙ getD-set-same q t a 0 in-q)) here
+        on i l b (no e) = next-new _ (subst (PastWave w x) (sym (front q t a i (omega arith))) (g .queued i l (omega arith)))

@@ -1,5 +1,6 @@
--- One heading's step out of a cell, whatever the heading, keeps what the waves keep and offers its target what it should: the offer is made
--- past the two cells beside it. Of a straight step these are its ends, so that it need not look at them.
+-- One heading's step out of a cell, whatever the heading, keeps what the waves keep and offers its target what it
+-- should: the offer is made past the two cells beside it. Of a straight step these are its ends, so that it need not
+-- look at them.
 use mathlib.Core.Path.{_≡_, ap, sym, subst}
 use mathlib.Core.List.{List}
 use Prim.Native.Nat.{ℕ, _+_, _-_, _/_, _%_, min, _≤_, _<_}
@@ -7,16 +8,16 @@ use native.Mathlib.Omega.{arith}
 use native.Mathlib.Decide.{decLe, ℕ-discrete}
 use lib.ListN.{length, set}
 use lib.Seq.{getD-set-same, set-getD}
-use Rattle.offers.specs.Work.{unreached, stride, span, stepped, at, Inside, target, beside, across, WorkStep, Room}
-use Rattle.offers.specs.Wave.{Wave, Going}
+use Rattle.offers.specs.Work.{unreached, stride, span, stepped, at, OffBorder, target, beside, across, WorkStep, QueueRoom}
+use Rattle.offers.specs.Wave.{Wave, Underway}
 use Rattle.offers.specs.Taken.{OfferMade, Offered}
-use Rattle.offers.proofs.Kept.{Ready}
+use Rattle.offers.proofs.Kept.{MayStep}
 use Rattle.offers.proofs.Numbers.{straight}
-use Rattle.steps.proofs.Headings.{Shape, level, upright, slanted, shape}
+use Rattle.steps.proofs.Headings.{Slope, level, upright, slanted, slope}
 use Rattle.offers.proofs.OneOffer.{idle, idle-falls, lowered, fresh, lower-falls}
 
 -- a cell that has a number is open
-pub open-floor : {w : Wave} {x q : List ℕ} {t : ℕ} → Going w x q t → (z : ℕ) → 0 < at x z → 0 < at (w .floor) z
+pub open-floor : {w : Wave} {x q : List ℕ} {t : ℕ} → Underway w x q t → (z : ℕ) → 0 < at x z → 0 < at (w .floor) z
 open-floor {w} {x} g z o = by (ℕ-discrete (at (w .floor) z) 0)
   where
     by : Dec (at (w .floor) z ≡ 0) → 0 < at (w .floor) z
@@ -24,16 +25,16 @@ open-floor {w} {x} g z o = by (ℕ-discrete (at (w .floor) z) 0)
     by (no e) = omega arith
 
 -- a cell that may take its steps is not on the border
-pub inside : {w : Wave} {x q : List ℕ} {t p : ℕ} → Ready w x q t p → Inside (w .floor) p
+pub inside : {w : Wave} {x q : List ℕ} {t p : ℕ} → MayStep w x q t p → OffBorder (w .floor) p
 inside {w} {x} {q} {t} {p} o = o .going .border p (open-floor (o .going) p (o .cell .free))
 
 -- c is what the step h out of p offers past the two cells beside it: if one is blocked, too much to count
-pub record Fits (x : List ℕ) (p h c : ℕ) : Type 0 where
+pub record OfferFits (x : List ℕ) (p h c : ℕ) : Type 0 where
   pub first : at x (beside p h) ≡ 0 → at x (target p h) ≤ c
   pub second : at x (across p h) ≡ 0 → at x (target p h) ≤ c
   pub both : 0 < at x (beside p h) → 0 < at x (across p h) → c ≡ stepped h (at x p)
 
-module _ (w : Wave) (x q : List ℕ) (t p h c : ℕ) (in-table : h < 8) (o : Ready w x q t p) (past : Fits x p h c) where
+module _ (w : Wave) (x q : List ℕ) (t p h c : ℕ) (in-table : h < 8) (o : MayStep w x q t p) (past : OfferFits x p h c) where
   abbrev a : ℕ
   a = target p h
 
@@ -41,16 +42,16 @@ module _ (w : Wave) (x q : List ℕ) (t p h c : ℕ) (in-table : h < 8) (o : Rea
   cand = stepped h (at x p)
 
   -- the step was taken
-  abbrev Step : List ℕ → List ℕ → ℕ → Type 0
-  Step = Offered w (λ j. j ≡ h) p x q
+  abbrev StepTaken : List ℕ → List ℕ → ℕ → Type 0
+  StepTaken = Offered w (λ j. j ≡ h) p x q
 
   -- the target has the number v now
   abbrev Result : ℕ → Type 0
   Result v =
       let t′ = t + (at x a / unreached - v / unreached) in
-      Room (set x a v) (set q t a) t′ → Step (set x a v) (set q t a) t′
+      QueueRoom (set x a v) (set q t a) t′ → StepTaken (set x a v) (set q t a) t′
 
-  g : Going w x q t
+  g : Underway w x q t
   g = o .going
 
   -- the only cell that the step leads to
@@ -64,8 +65,8 @@ module _ (w : Wave) (x q : List ℕ) (t p h c : ℕ) (in-table : h < 8) (o : Rea
   nothing : ((b : ℕ) → WorkStep (w .floor) h p b → at x b ≤ cand) → Result (at x a)
   nothing done room =
       let e : t + (at x a / unreached - at x a / unreached) ≡ t = omega arith in
-      subst (λ (l : List ℕ). Step l (set q t a) (t + (at x a / unreached - at x a / unreached))) (sym (set-getD x a 0))
-      (subst (Step x (set q t a)) (sym e) (record { going = idle w x q t a g; falls = idle-falls w x q t a g; done = taken x done }))
+      subst (λ (l : List ℕ). StepTaken l (set q t a) (t + (at x a / unreached - at x a / unreached))) (sym (set-getD x a 0))
+      (subst (StepTaken x (set q t a)) (sym e) (record { going = idle w x q t a g; falls = idle-falls w x q t a g; done = taken x done }))
 
   quiet : min c (at x a) ≡ at x a → ((b : ℕ) → WorkStep (w .floor) h p b → at x b ≤ cand) → Result (min c (at x a))
   quiet e done = subst Result (sym e) (nothing done)
@@ -91,17 +92,17 @@ module _ (w : Wave) (x q : List ℕ) (t p h c : ℕ) (in-table : h < 8) (o : Rea
       done b u = omega (arith, ap (at (set x a cand)) (only b u), getD-set-same x a cand 0 in-x)
 
       ended : (n : ℕ) → t + (at x a / unreached - cand / unreached) ≡ n
-          → (Room (set x a cand) (set q t a) n → Going w (set x a cand) (set q t a) n)
-          → Step (set x a cand) (set q t a) (t + (at x a / unreached - cand / unreached))
+          → (QueueRoom (set x a cand) (set q t a) n → Underway w (set x a cand) (set q t a) n)
+          → StepTaken (set x a cand) (set q t a) (t + (at x a / unreached - cand / unreached))
       ended n e go =
-          subst (Step (set x a cand) (set q t a)) (sym e)
+          subst (StepTaken (set x a cand) (set q t a)) (sym e)
           (record {
-            going = go (subst (Room (set x a cand) (set q t a)) e room);
+            going = go (subst (QueueRoom (set x a cand) (set q t a)) e room);
             falls = lower-falls w x q t a g h p s (o .small) (o .cell) k;
             done = taken (set x a cand) done;
           })
 
-      by : Dec (unreached ≤ at x a) → Step (set x a cand) (set q t a) (t + (at x a / unreached - cand / unreached))
+      by : Dec (unreached ≤ at x a) → StepTaken (set x a cand) (set q t a) (t + (at x a / unreached - cand / unreached))
       by (yes f) =
           let m = g .kinds a in
           ended (t + 1) (omega arith) (fresh w x q t a g h p s (o .small) (o .cell) k (omega arith))
@@ -134,15 +135,15 @@ move3 P {x} {x′} {q} {q′} {t} {t′} e f d k =
 
 -- an offer to the target of what fits is the step
 pub one-step :
-    (w : Wave) (x q : List ℕ) (t p h c : ℕ) (x′ q′ : List ℕ) (t′ : ℕ) → h < 8 → OfferMade (target p h) c t x q x′ q′ t′ → Ready w x q t p
-    → Fits x p h c → Offered w (λ j. j ≡ h) p x q x′ q′ t′
+    (w : Wave) (x q : List ℕ) (t p h c : ℕ) (x′ q′ : List ℕ) (t′ : ℕ) → h < 8 → OfferMade (target p h) c t x q x′ q′ t′ → MayStep w x q t p
+    → OfferFits x p h c → Offered w (λ j. j ≡ h) p x q x′ q′ t′
 one-step w x q t p h c x′ q′ t′ in-table made o fits =
     move3 (λ u v n. Offered w (λ j. j ≡ h) p x q u v n) (sym (made .cells)) (sym (made .queue)) (sym (made .end))
-    (offer-law w x q t p h c in-table o fits (move3 Room (made .cells) (made .queue) (made .end) (made .room)))
+    (offer-law w x q t p h c in-table o fits (move3 QueueRoom (made .cells) (made .queue) (made .end) (made .room)))
 
 -- a straight step offers its number as it is: it has no other cells beside it
-pub straight-fits : (w : Wave) (x q : List ℕ) (t p h c : ℕ) → Ready w x q t p → h < 8 → h % 2 ≡ 0 → c ≡ at x p + span → Fits x p h c
-straight-fits w x q t p h c o in-table even e = by (shape h in-table)
+pub straight-fits : (w : Wave) (x q : List ℕ) (t p h c : ℕ) → MayStep w x q t p → h < 8 → h % 2 ≡ 0 → c ≡ at x p + span → OfferFits x p h c
+straight-fits w x q t p h c o in-table even e = by (slope h in-table)
   where
     low : stride + 1 ≤ p
     low = inside o .low
@@ -153,7 +154,7 @@ straight-fits w x q t p h c o in-table even e = by (shape h in-table)
     sum : c ≡ stepped h (at x p)
     sum = omega (arith, straight h (at x p) even)
 
-    by : Shape h → Fits x p h c
+    by : Slope h → OfferFits x p h c
     by (level _ r) =
         let f : beside p h ≡ p = omega (arith, low) in
         let d : across p h ≡ target p h = omega (arith, low) in

@@ -1,5 +1,5 @@
--- The four cells beside a place, which a diagonal step goes past. Each is read once, before one of the two steps past it, and that is as good
--- as just before each: blocked cells stay blocked and open ones open.
+-- The four cells beside a place, which a diagonal step goes past. Each is read once, before one of the two steps past
+-- it, and that is as good as just before each: blocked cells stay blocked and open ones open.
 use mathlib.Core.Path.{_≡_, ap, sym, subst, _∙_}
 use mathlib.Core.Logic.{_⊎_, inl, inr}
 use mathlib.Core.List.{List}
@@ -7,12 +7,12 @@ use Prim.Native.Nat.{ℕ, _+_, _-_, _%_, _≤_, _<_}
 use native.Mathlib.Omega.{arith}
 use native.Mathlib.Decide.{ℕ-discrete}
 use Rattle.offers.specs.Work.{unreached, stride, stepped, at, target, beside, across}
-use Rattle.offers.specs.Wave.{Wave, Going}
-use Rattle.offers.specs.Taken.{Masks, MaskRead, Past}
-use Rattle.steps.proofs.Headings.{Flank, Corner, Shape, level, upright, slanted, shape}
-use Rattle.offers.proofs.OneStep.{open-floor, Fits}
+use Rattle.offers.specs.Wave.{Wave, Underway}
+use Rattle.offers.specs.Taken.{Masks, MaskRead, PastSides}
+use Rattle.steps.proofs.Headings.{Flank, Corner, Slope, level, upright, slanted, slope}
+use Rattle.offers.proofs.OneStep.{open-floor, OfferFits}
 
-module _ (w : Wave) (x q : List ℕ) (t : ℕ) (g : Going w x q t) where
+module _ (w : Wave) (x q : List ℕ) (t : ℕ) (g : Underway w x q t) where
   -- a mask that is read while the steps are taken is that of the cell as it was loaded
   pub mask-read : (z r : ℕ) → MaskRead (at x z) r → Masks (at (w .floor) z) r
   mask-read z r read = let m = read (g .kinds z) in record { blocked = λ e. m .blocked (g .shut z e); free = λ o. m .free (g .free z o) }
@@ -26,8 +26,8 @@ module _ (w : Wave) (x q : List ℕ) (t : ℕ) (g : Going w x q t) where
       by (no d) = absurd (omega (arith, g .free z (omega arith)))
 
   module _ (p h cand c : ℕ) (sum : cand ≡ stepped h (at x p)) where
-    past-fits : (a b : ℕ) → Masks (at (w .floor) (across p h)) a → Masks (at (w .floor) (beside p h)) b → (Past cand a b c) ⊎ (Past cand b a c)
-        → Fits x p h c
+    past-fits : (a b : ℕ) → Masks (at (w .floor) (across p h)) a → Masks (at (w .floor) (beside p h)) b → (PastSides cand a b c) ⊎ (PastSides cand b a c)
+        → OfferFits x p h c
     past-fits a b m n past = let k = g .kinds (target p h) in
         record {
           first = λ e. omega (arith, high past (inr (n .blocked (shut-floor (beside p h) e))));
@@ -35,29 +35,29 @@ module _ (w : Wave) (x q : List ℕ) (t : ℕ) (g : Going w x q t) where
           both = λ s u. same past (m .free (open-floor g (across p h) u)) (n .free (open-floor g (beside p h) s)) ∙ sum;
         }
       where
-        high : (Past cand a b c) ⊎ (Past cand b a c) → (unreached ≤ a) ⊎ (unreached ≤ b) → unreached ≤ c
+        high : (PastSides cand a b c) ⊎ (PastSides cand b a c) → (unreached ≤ a) ⊎ (unreached ≤ b) → unreached ≤ c
         high (inl k) (inl u) = k .first u
         high (inl k) (inr u) = k .second u
         high (inr k) (inl u) = k .second u
         high (inr k) (inr u) = k .first u
 
-        same : (Past cand a b c) ⊎ (Past cand b a c) → a ≡ 0 → b ≡ 0 → c ≡ cand
+        same : (PastSides cand a b c) ⊎ (PastSides cand b a c) → a ≡ 0 → b ≡ 0 → c ≡ cand
         same (inl k) e f = k .both e f
         same (inr k) e f = k .both f e
 
     pub diagonal-fits : (a b : ℕ) → h < 8 → h % 2 ≡ 1 → stride + 1 ≤ p → Masks (at (w .floor) (target p (h - 1))) a
-        → Masks (at (w .floor) (target p ((h + 1) % 8))) b → Past cand a b c → Fits x p h c
-    diagonal-fits a b in-table odd low m n past = by (shape h in-table)
+        → Masks (at (w .floor) (target p ((h + 1) % 8))) b → PastSides cand a b c → OfferFits x p h c
+    diagonal-fits a b in-table odd low m n past = by (slope h in-table)
       where
         move : (i j z r : ℕ) → j ≡ i → target p j ≡ z → Masks (at (w .floor) (target p i)) r → Masks (at (w .floor) z) r
         move i j z r d e k = subst (λ (y : ℕ). Masks (at (w .floor) y) r) (ap (target p) (sym d) ∙ e) k
 
-        by : Shape h → Fits x p h c
+        by : Slope h → OfferFits x p h c
         by (level even _) = absurd (omega arith)
         by (upright even _) = absurd (omega arith)
         by (slanted _ k) = between k (k .flank)
           where
-            between : (k : Corner h) → Flank h (k .first) (k .second) → Fits x p h c
+            between : (k : Corner h) → Flank h (k .first) (k .second) → OfferFits x p h c
             between k (inl f) =
                 past-fits _ _ (move _ _ (across p h) _ (f .0) (omega (arith, k .along)) m) (move _ _ (beside p h) _ (f .1) (omega (arith, k .down)) n)
                 (inl past)

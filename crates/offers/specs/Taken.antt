@@ -1,12 +1,11 @@
--- What the steps out of one cell do: what they need to be taken in a wave, and what they leave. A contract speaks of every wave in which the
--- steps may be taken (`keeps`); that they are safe to take is said apart from it.
--- Assumes nothing.
+-- What the steps out of one cell do: what they need to be taken in a wave, and what they leave. A contract speaks of
+-- every wave in which the steps may be taken (`keeps`); that they are safe to take is said apart from it.
 use mathlib.Core.Path.{_≡_}
 use mathlib.Core.List.{List}
 use Prim.Native.Nat.{ℕ, _+_, _-_, _/_, min, _≤_, _<_}
 use lib.ListN.{length, set}
-use Rattle.offers.specs.Work.{unreached, span, stepped, highest, at, target, WorkStep, Room}
-use Rattle.offers.specs.Wave.{Wave, Going, Falls}
+use Rattle.offers.specs.Work.{unreached, span, stepped, highest, at, target, WorkStep, QueueRoom}
+use Rattle.offers.specs.Wave.{Wave, Underway, Falls}
 
 -- place a, which had the number v, has c if that is less, and stands behind the queue
 pub record Lowered (a c t : ℕ) (x q x′ q′ : List ℕ) (v : ℕ) : Type 0 where
@@ -19,7 +18,7 @@ pub record OfferMade (a c t : ℕ) (x q x′ q′ : List ℕ) (t′ : ℕ) : Typ
   pub cells : x′ ≡ set x a (min c (at x a))
   pub queue : q′ ≡ set q t a
   pub end : t′ ≡ t + (at x a / unreached - min c (at x a) / unreached)
-  pub room : Room x′ q′ t′
+  pub room : QueueRoom x′ q′ t′
 
 -- r is the mask of a cell with the number v: 0 if it is open, else too much to count
 pub record Masks (v r : ℕ) : Type 0 where
@@ -37,20 +36,20 @@ pub record SideStep (p h cand t : ℕ) (x q x′ q′ : List ℕ) (t′ r : ℕ)
 
 -- the straight step after the diagonal heading h was taken; after 7, the last one, it is north, which was taken first
 pub record SideAfter (p h cand t north : ℕ) (x q x′ q′ : List ℕ) (t′ r : ℕ) : Type 0 where
-  pub room : Room x′ q′ t′
+  pub room : QueueRoom x′ q′ t′
   pub size : length x′ ≡ length x
   pub step : h < 7 → SideStep p (h + 1) cand t x q x′ q′ t′ r
   pub last : h ≡ 7 → (x′ ≡ x) × (q′ ≡ q) × (t′ ≡ t) × (r ≡ north)
 
 -- what is offered past two side cells with the masks a and b: if one is blocked, too much to count
-pub record Past (cand a b r : ℕ) : Type 0 where
+pub record PastSides (cand a b r : ℕ) : Type 0 where
   pub first : unreached ≤ a → unreached ≤ r
   pub second : unreached ≤ b → unreached ≤ r
   pub both : a ≡ 0 → b ≡ 0 → r ≡ cand
 
 -- the steps of the headings that count were taken out of p
 pub record Offered (w : Wave) (Counts : ℕ → Type 0) (p : ℕ) (x q x′ q′ : List ℕ) (t′ : ℕ) : Type 0 where
-  pub going : Going w x′ q′ t′
+  pub going : Underway w x′ q′ t′
   pub falls : Falls w x q x′ q′
   pub done : (h b : ℕ) → Counts h → WorkStep (w .floor) h p b → at x′ b ≤ stepped h (at x p)
 
@@ -63,5 +62,5 @@ pub record This (x : List ℕ) (limit p : ℕ) : Type 0 where
 -- every step out of p was taken, in every wave that ends where numbers have room and whose cell it is
 pub record TakenLeft (p t : ℕ) (x q x′ q′ : List ℕ) (t′ : ℕ) : Type 0 where
   pub size : length x′ ≡ length x
-  pub room : Room x′ q′ t′
-  pub keeps : (w : Wave) → Going w x q t → w .limit ≤ highest → This x (w .limit) p → Offered w (λ h. h < 8) p x q x′ q′ t′
+  pub room : QueueRoom x′ q′ t′
+  pub keeps : (w : Wave) → Underway w x q t → w .limit ≤ highest → This x (w .limit) p → Offered w (λ h. h < 8) p x q x′ q′ t′

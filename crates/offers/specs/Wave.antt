@@ -1,14 +1,14 @@
--- What the waves keep. A wave is one straight step wide: its cells are settled before its steps are taken, and what they reach lies in the
--- next wave or in the one after that, whatever the order.
+-- What the waves keep. A wave is one straight step wide: its cells are settled before its steps are taken, and what
+-- they reach lies in the next wave or in the one after that, whatever the order.
 use mathlib.Core.Path.{_≡_}
 use mathlib.Core.Logic.{_⊎_}
 use mathlib.Core.List.{List}
 use Prim.Native.Nat.{ℕ, _+_, _*_, _≤_, _<_}
 use lib.ListN.{getD, length}
-use Rattle.offers.specs.Work.{unreached, span, atGoal, stepped, at, Inside, WorkStep, Room}
+use Rattle.offers.specs.Work.{unreached, span, atGoal, stepped, at, OffBorder, WorkStep, QueueRoom}
 
--- a wave: the floor as it was loaded, in which the goal's cells have the goal's number; the work array and the end of the queue
--- when the wave began; and the number at which it ends
+-- a wave: the floor as it was loaded, in which the goal's cells have the goal's number; the work array and the end of
+-- the queue when the wave began; and the number at which it ends
 pub record Wave : Type 0 where
   pub floor : List ℕ
   pub before : List ℕ
@@ -36,18 +36,18 @@ pub record Reached (x : List ℕ) (z : ℕ) : Type 0 where
   pub found : at x z < unreached
 
 -- z was reached, past this wave
-pub record Next (w : Wave) (x : List ℕ) (z : ℕ) : Type 0 where
+pub record PastWave (w : Wave) (x : List ℕ) (z : ℕ) : Type 0 where
   pub after : w .limit ≤ at x z
   pub found : at x z < unreached
 
 -- what holds while a wave's steps are taken
-pub record Going (w : Wave) (x q : List ℕ) (t : ℕ) : Type 0 where
+pub record Underway (w : Wave) (x q : List ℕ) (t : ℕ) : Type 0 where
   -- open cells are not on the border
-  pub border : (z : ℕ) → 0 < at (w .floor) z → Inside (w .floor) z
+  pub border : (z : ℕ) → 0 < at (w .floor) z → OffBorder (w .floor) z
   -- the work array is as large as it was
   pub cells : length x ≡ length (w .floor)
   -- the queue has room for all that wait
-  pub room : Room x q t
+  pub room : QueueRoom x q t
   -- the cells that the wave reaches begin before the queue's end
   pub order : w .end ≤ t
   -- no number is above that of a cell that is not reached
@@ -63,11 +63,13 @@ pub record Going (w : Wave) (x q : List ℕ) (t : ℕ) : Type 0 where
   pub support : (z : ℕ) → 0 < at x z → at x z < unreached → (at (w .floor) z ≡ atGoal) ⊎ Support w x z (at x z)
   -- no step out of a cell before this wave would lower a cell
   pub relaxed : (h a b : ℕ) → WorkStep (w .floor) h a b → at x a + span < w .limit → at x b ≤ stepped h (at x a)
-  -- behind its end when the wave began, the queue has the cells that were reached since, and all cells there lie past the wave
+  -- behind its end when the wave began, the queue has the cells that were reached since, and all cells there lie past
+  -- the wave
   pub listed : (z : ℕ) → at (w .before) z ≡ unreached → at x z < unreached → Listed q (w .end) t z
-  pub queued : (i : ℕ) → w .end ≤ i → i < t → Next w x (getD q i 0)
+  pub queued : (i : ℕ) → w .end ≤ i → i < t → PastWave w x (getD q i 0)
 
--- what steps do to the cells: none rises, settled ones stay, none falls into this wave, and the queue stays up to the wave's end
+-- what steps do to the cells: none rises, settled ones stay, none falls into this wave, and the queue stays up to the
+-- wave's end
 pub record Falls (w : Wave) (x q x′ q′ : List ℕ) : Type 0 where
   pub low : (z : ℕ) → at x′ z ≤ at x z
   pub keep : (z : ℕ) → at x z < w .limit → at x′ z ≡ at x z

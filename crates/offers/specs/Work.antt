@@ -1,13 +1,13 @@
--- The work array: a number for each cell of the floor and of a border of blocked cells around it. 0: blocked, or off the floor. `unreached`:
--- open, and not reached. Else the length found: with one straight step more its key is 13860 q + r, r below 13860, and the number is
--- 16384 q + r + 73. So a number's quotient by 16384 is its wave and its remainder is its place in the wave, from 73 up to 13932.
--- Beside it a queue of the cells that were reached. In all files x is a work array, q a queue and t its end.
--- Assumes nothing.
+-- The work array: a number for each cell of the floor and of a border of blocked cells around it. 0: blocked, or off
+-- the floor. `unreached`: open, and not reached. Else the length found: with one straight step more its key is 13860 q
+-- + r, r below 13860, and the number is 16384 q + r + 73. So a number's quotient by 16384 is its wave and its remainder
+-- is its place in the wave, from 73 up to 13932. Beside it a queue of the cells that were reached. In all files x is a
+-- work array, q a queue and t its end.
 use mathlib.Core.Path.{_≡_}
 use mathlib.Core.List.{List, [], _∷_}
 use Prim.Native.Nat.{ℕ, zero, suc, _+_, _-_, _*_, _/_, _%_, _≤_, _<_}
 use lib.ListN.{getD, length}
-use Rattle.lengths.proofs.Keys.{straightKey, diagonalKey}
+use Rattle.lengths.specs.Keys.{straightKey, diagonalKey}
 use Rattle.steps.specs.Heading.{changeOf}
 
 -- the number of an open cell that is not reached
@@ -50,7 +50,8 @@ atGoal = span + raise
 unfoldable pub lateOf : ℕ → ℕ
 lateOf v = v / half % 2
 
--- what a straight step, with parity 0, and a diagonal one make of the number v: one wave more, and the extra, and from a late cell the gap
+-- what a straight step, with parity 0, and a diagonal one make of the number v: one wave more, and the extra, and from
+-- a late cell the gap
 abbrev pub steppedBy : ℕ → ℕ → ℕ
 steppedBy zero v = v + span
 steppedBy (suc b) v = v + (span + extra + gap * lateOf v)
@@ -72,7 +73,7 @@ abbrev pub spot : ℕ → ℕ → ℕ
 spot c r = (r + 1) * stride + c + 1
 
 -- a place that is not on the border
-pub record Inside (x : List ℕ) (a : ℕ) : Type 0 where
+pub record OffBorder (x : List ℕ) (a : ℕ) : Type 0 where
   pub low : stride + 1 ≤ a
   pub high : a + (stride + 1) < length x
 
@@ -101,7 +102,7 @@ waiting [] = 0
 waiting (v ∷ l) = v / unreached + waiting l
 
 -- the queue has room for all that wait, and a place more, which is written before it is known whether it counts
-pub record Room (x q : List ℕ) (t : ℕ) : Type 0 where
+pub record QueueRoom (x q : List ℕ) (t : ℕ) : Type 0 where
   pub few : length x ≤ largest
   pub narrow : length q ≤ largest
   pub enough : t + waiting x < length q

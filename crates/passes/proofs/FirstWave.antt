@@ -1,4 +1,5 @@
--- The first wave: the goal's places alone were reached, and take their steps. They are a wave of their own, which ends at 2 * span.
+-- The first wave: the goal's places alone were reached, and take their steps. They are a wave of their own, which ends
+-- at 2 * span.
 use mathlib.Core.Path.{_≡_, refl, ap, sym, subst, _∙_}
 use mathlib.Core.Logic.{_⊎_, inl, inr}
 use mathlib.Core.List.{List}
@@ -7,10 +8,10 @@ use native.Mathlib.Omega.{arith}
 use native.Mathlib.Decide.{decLe, ℕ-discrete}
 use lib.ListN.{getD, length}
 use Rattle.offers.specs.Work.{unreached, span, atGoal, stepped, at, WorkStep}
-use Rattle.offers.specs.Wave.{Wave, Listed, Going}
+use Rattle.offers.specs.Wave.{Listed, Underway}
 use Rattle.offers.specs.Taken.{This}
 use Rattle.passes.specs.Solved.{Loaded, Goals, goalWave, GoalsDone}
-use Rattle.passes.proofs.Kept.{the, Between}
+use Rattle.passes.proofs.Kept.{Between}
 use Rattle.passes.proofs.Onward.{supported, next-due, onward}
 
 module _ (x q : List ℕ) (l : Loaded x q) where
@@ -31,7 +32,7 @@ module _ (x q : List ℕ) (l : Loaded x q) where
       by (inr (inl e)) = omega arith
       by (inr (inr e)) = omega arith
 
-  pub still : Going (goalWave x) x q 0
+  pub still : Underway (goalWave x) x q 0
   still = record {
     border = l .border;
     cells = refl;

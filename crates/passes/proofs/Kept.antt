@@ -1,5 +1,4 @@
 -- What the passes keep.
--- Assumes nothing.
 use mathlib.Core.Path.{_≡_}
 use mathlib.Core.Logic.{_⊎_}
 use mathlib.Core.List.{List}
@@ -7,7 +6,7 @@ use Prim.Native.Nat.{ℕ, _+_, _-_, _*_, _≤_, _<_}
 use native.Mathlib.Omega.{arith}
 use lib.ListN.{getD}
 use Rattle.offers.specs.Work.{unreached, span, atGoal, at}
-use Rattle.offers.specs.Wave.{Wave, Support, Listed, Reached, Going}
+use Rattle.offers.specs.Wave.{Wave, Support, Listed, Reached, Underway}
 use Rattle.passes.specs.Pass.{Due}
 
 -- a larger part of the queue
@@ -21,7 +20,7 @@ the floor x end limit = record { floor = floor; before = x; end = end; limit = l
 
 -- between waves: the next one ends at limit
 pub record Between (floor : List ℕ) (mid fresh tail limit : ℕ) (x q : List ℕ) : Type 0 where
-  pub going : Going (the floor x tail limit) x q tail
+  pub going : Underway (the floor x tail limit) x q tail
   pub order : (mid ≤ fresh) × (fresh ≤ tail)
   -- everything reached lies below the end of the wave after this one
   pub below : (z : ℕ) → at x z < unreached → at x z < limit + span

@@ -1,5 +1,4 @@
 -- When no cell is left, all steps were taken, and the array is solved.
--- Assumes nothing.
 use mathlib.Core.Path.{_≡_}
 use mathlib.Core.Logic.{_⊎_, inl, inr}
 use mathlib.Core.List.{List}
@@ -8,7 +7,7 @@ use native.Mathlib.Omega.{arith}
 use native.Mathlib.Decide.{decLe, ℕ-discrete}
 use Rattle.offers.specs.Work.{unreached, span, atGoal, highest, at}
 use Rattle.offers.specs.Wave.{Support}
-use Rattle.passes.specs.Solved.{Found, Solved}
+use Rattle.passes.specs.Solved.{ReachedBy, Solved}
 use Rattle.passes.proofs.Kept.{the, Between}
 
 module _ (floor : List ℕ) (mid fresh tail limit : ℕ) (x q : List ℕ) (g : Between floor mid fresh tail limit x q) (empty : tail ≤ mid) where
@@ -41,6 +40,6 @@ module _ (floor : List ℕ) (mid fresh tail limit : ℕ) (x q : List ℕ) (g : B
       by z f (yes e) = omega arith
       by z f (no e) = omega (arith, low z (omega arith) f, fits)
 
-      found : (z : ℕ) → (at floor z ≡ atGoal) ⊎ Support (the floor x tail limit) x z (at x z) → (at floor z ≡ atGoal) ⊎ Found floor x z (at x z)
+      found : (z : ℕ) → (at floor z ≡ atGoal) ⊎ Support (the floor x tail limit) x z (at x z) → (at floor z ≡ atGoal) ⊎ ReachedBy floor x z (at x z)
       found z (inl e) = inl e
       found z (inr u) = inr (record { heading = u .heading; cell = u .cell; step = u .step; found = omega (arith, u .near, fits); sum = u .sum })

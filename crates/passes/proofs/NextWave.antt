@@ -1,14 +1,14 @@
 -- From one wave to the next. The argument, in words:
--- 1. All numbers below `limit`, the wave's end, are settled: they were reached by steps out of cells before the wave, all of which were taken, and
---    none of them rises or falls any more.
--- 2. This wave's cells are those below `limit` that have not taken their steps. Any step is one wave long at least and two at most, so what they
---    offer lies in the next wave or in the one after that, whatever the order of the steps.
--- 3. So the settled cells stay, and afterwards no step out of a cell below `limit` would lower a cell: the limit can rise by a straight step.
+-- 1. All numbers below `limit`, the wave's end, are settled: they were reached by steps out of cells before the wave,
+--    all of which were taken, and none of them rises or falls any more.
+-- 2. This wave's cells are those below `limit` that have not taken their steps. Any step is one wave long at least and
+--    two at most, so what they offer lies in the next wave or in the one after that, whatever the order of the steps.
+-- 3. So the settled cells stay, and afterwards no step out of a cell below `limit` would lower a cell: the limit can
+--    rise by a straight step.
 -- 4. The cells that have not taken their steps are those that waited in this wave, and those that it reached.
--- 5. What waited in this wave was reached before it, by a step out of a cell before the wave, and so lies less than one wave past its end. It does
---    not wait in the next one.
+-- 5. What waited in this wave was reached before it, by a step out of a cell before the wave, and so lies less than one
+--    wave past its end. It does not wait in the next one.
 -- 6. No wave is empty, so there are no more waves than cells, which bounds every number (`count`).
--- Assumes nothing.
 use mathlib.Core.Path.{_≡_, refl, ap, sym, subst, _∙_}
 use mathlib.Core.List.{List}
 use Prim.Native.Nat.{ℕ, _+_, _≤_, _<_}

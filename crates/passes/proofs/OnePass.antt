@@ -1,13 +1,13 @@
--- One pass over the cells of a wave: once the fresh ones are parted, the ready ones, with those that waited in the wave before, take their steps
--- one by one, and the others wait.
+-- One pass over the cells of a wave: once the fresh ones are parted, the ready ones, with those that waited in the wave
+-- before, take their steps one by one, and the others wait.
 use mathlib.Core.Path.{_≡_, ap, sym, subst, _∙_}
 use mathlib.Core.List.{List}
 use Prim.Native.Nat.{ℕ, _+_, _≤_, _<_}
 use native.Mathlib.Omega.{arith}
 use native.Mathlib.Decide.{decLe, ℕ-discrete}
 use lib.ListN.{getD, length}
-use Rattle.offers.specs.Work.{highest, stepped, at, Inside, WorkStep, Room}
-use Rattle.offers.specs.Wave.{Wave, Listed, Reached, Going}
+use Rattle.offers.specs.Work.{highest, stepped, at, OffBorder, WorkStep, QueueRoom}
+use Rattle.offers.specs.Wave.{Wave, Listed, Reached, Underway}
 use Rattle.offers.specs.Taken.{Offered, This, TakenLeft}
 use Rattle.passes.specs.Pass.{Due, Places, Parted, StepsReady, StepsBegun, StepsDone, StepsLeft, PassReady, PassBegun, PassDone, PassLeft}
 use Rattle.offers.proofs.OneOffer.{same-behind}
@@ -17,17 +17,17 @@ use Rattle.passes.proofs.Parting.{parted-before}
 
 -- the cell at c can be stepped out of
 pub record CanStep (x q : List ℕ) (c t : ℕ) : Type 0 where
-  pub inside : Inside x c
+  pub inside : OffBorder x c
   pub low : at x c < highest
-  pub room : Room x q t
+  pub room : QueueRoom x q t
 
 -- an open cell is not on the border
-inside : (w : Wave) (x q : List ℕ) (t : ℕ) → Going w x q t → (z : ℕ) → 0 < at x z → Inside x z
+inside : (w : Wave) (x q : List ℕ) (t : ℕ) → Underway w x q t → (z : ℕ) → 0 < at x z → OffBorder x z
 inside w x q t g z o =
     let a = g .border z (open-floor g z o) in
     record { low = a .low; high = omega (arith, a .high, g .cells) }
 
-pub steps-none : (w : Wave) (list : List ℕ) (low : ℕ) (x q : List ℕ) (t : ℕ) → Going w x q t → StepsDone w list low low x q x q t
+pub steps-none : (w : Wave) (list : List ℕ) (low : ℕ) (x q : List ℕ) (t : ℕ) → Underway w x q t → StepsDone w list low low x q x q t
 steps-none w list low x q t g = record { going = g; falls = falls-none w x q; done = λ k h b m n s. absurd (omega arith) }
 
 -- the next cell of the list, which was one of the wave's when that began, still is, and takes its steps
@@ -101,7 +101,7 @@ module _ (w : Wave) (x q : List ℕ) (mid fresh t : ℕ) (r : PassReady w x q mi
 
   module _ (q′ : List ℕ) (top : ℕ) (p : Parted x (w .limit) mid t q q′ top) (size : length q′ ≡ length q) where
     -- no cell was reached yet in this wave, so that the order of those before it does not matter
-    going : Going w x q′ t
+    going : Underway w x q′ t
     going = same-behind w x q q′ t (r .going) size (λ i m n. absurd (omega (arith, r .begins)))
 
     due : (k : ℕ) → mid ≤ k → k < t → Due x (w .limit) (getD q′ k 0)

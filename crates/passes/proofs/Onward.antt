@@ -1,16 +1,16 @@
--- When all steps out of cells below a wave's end were taken, the next wave can begin: its end is one straight step further.
--- Assumes nothing.
+-- When all steps out of cells below a wave's end were taken, the next wave can begin: its end is one straight step
+-- further.
 use mathlib.Core.Path.{_≡_}
 use mathlib.Core.Logic.{_⊎_, inl, inr}
 use mathlib.Core.List.{List}
 use Prim.Native.Nat.{ℕ, _+_, _-_, _≤_, _<_}
 use native.Mathlib.Omega.{arith}
 use Rattle.offers.specs.Work.{span, atGoal, stepped, at, WorkStep}
-use Rattle.offers.specs.Wave.{Support, Reached, Next, Going}
+use Rattle.offers.specs.Wave.{Support, Reached, PastWave, Underway}
 use Rattle.passes.specs.Pass.{Due}
 use Rattle.passes.proofs.Kept.{the}
 
-module _ (floor : List ℕ) (x : List ℕ) (end limit : ℕ) (x′ q′ : List ℕ) (t : ℕ) (g : Going (the floor x end limit) x′ q′ t) where
+module _ (floor : List ℕ) (x : List ℕ) (end limit : ℕ) (x′ q′ : List ℕ) (t : ℕ) (g : Underway (the floor x end limit) x′ q′ t) where
   -- what was reached by a step out of a settled cell was so, whatever the wave's end
   again : (v z : ℕ) → limit ≤ v → Reached x′ z → (at floor z ≡ atGoal) ⊎ Support (the floor x′ t v) x′ z (at x′ z)
   again v z m r = by (g .support z (r .free) (r .found))
@@ -23,10 +23,10 @@ module _ (floor : List ℕ) (x : List ℕ) (end limit : ℕ) (x′ q′ : List �
   supported z r = again (limit + span - span) z (omega arith) r
 
   -- what lies past the wave is due in the next one
-  pub next-due : (z : ℕ) → 0 < limit → Next (the floor x end limit) x′ z → Due x′ (limit + span) z
+  pub next-due : (z : ℕ) → 0 < limit → PastWave (the floor x end limit) x′ z → Due x′ (limit + span) z
   next-due z m r = record { reached = record { free = omega (arith, r .after); found = r .found }; after = omega (arith, r .after) }
 
-  pub onward : ((h a b : ℕ) → WorkStep floor h a b → at x′ a < limit → at x′ b ≤ stepped h (at x′ a)) → Going (the floor x′ t (limit + span)) x′ q′ t
+  pub onward : ((h a b : ℕ) → WorkStep floor h a b → at x′ a < limit → at x′ b ≤ stepped h (at x′ a)) → Underway (the floor x′ t (limit + span)) x′ q′ t
   onward relaxed = record {
     border = g .border;
     cells = g .cells;

@@ -1,5 +1,5 @@
--- Cells are parted one by one: the first stands where it belongs; the next one is swapped to where the ready ones end, and is one of them if it is
--- below the limit. What stood there waits, and still stands behind the ready ones.
+-- Cells are parted one by one: the first stands where it belongs; the next one is swapped to where the ready ones end,
+-- and is one of them if it is below the limit. What stood there waits, and still stands behind the ready ones.
 use mathlib.Core.Path.{_≡_, refl, ap, sym, subst, _∙_}
 use mathlib.Core.Logic.{_≢_}
 use mathlib.Core.List.{List}

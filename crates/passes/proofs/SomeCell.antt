@@ -1,6 +1,7 @@
--- No wave is empty: if cells are left, one of them lies below the wave's end. For take any that does not. It was reached by a step out of a
--- settled cell, and not by a straight one, which is not long enough. So it was by a diagonal one, and the cell beside, which is one straight step
--- from both, lies below the wave's end. Had it taken its steps, it would have offered less.
+-- No wave is empty: if cells are left, one of them lies below the wave's end. For take any that does not. It was
+-- reached by a step out of a settled cell, and not by a straight one, which is not long enough. So it was by a diagonal
+-- one, and the cell beside, which is one straight step from both, lies below the wave's end. Had it taken its steps, it
+-- would have offered less.
 use mathlib.Core.Path.{_≡_, ap}
 use mathlib.Core.Logic.{_⊎_, inl, inr}
 use mathlib.Core.List.{List}
@@ -11,7 +12,7 @@ use lib.ListN.{getD}
 use Rattle.offers.specs.Work.{stride, span, atGoal, highest, at, across, WorkStep}
 use Rattle.offers.specs.Wave.{Support}
 use Rattle.offers.proofs.Numbers.{straight}
-use Rattle.steps.proofs.Headings.{Corner, Shape, level, upright, slanted, shape}
+use Rattle.steps.proofs.Headings.{Corner, Slope, level, upright, slanted, slope}
 use Rattle.offers.proofs.InWork.{also}
 use Rattle.passes.proofs.Kept.{the, Between}
 
@@ -38,7 +39,7 @@ module _ (floor : List ℕ) (h a b : ℕ) (s : WorkStep floor h a b) (low : stri
   }
 
 -- a cell of q[mid..tail] that lies below limit
-pub record Low (x q : List ℕ) (mid tail limit : ℕ) : Type 0 where
+pub record ReadyCell (x q : List ℕ) (mid tail limit : ℕ) : Type 0 where
   pub index : ℕ
   pub after : mid ≤ index
   pub before : index < tail
@@ -62,7 +63,7 @@ module _ (floor : List ℕ) (mid fresh tail limit : ℕ) (x q : List ℕ) (g : B
     abbrev c : ℕ
     c = across a (u .heading)
 
-    beside : Corner (u .heading) → Low x q mid tail limit
+    beside : Corner (u .heading) → ReadyCell x q mid tail limit
     beside k = by (decLe limit (at x c + span))
       where
         inside : stride + 1 ≤ a
@@ -77,24 +78,24 @@ module _ (floor : List ℕ) (mid fresh tail limit : ℕ) (x q : List ℕ) (g : B
         below : at x c < limit
         below = omega (arith, one (k .first) a c there (k .even .0) (omega (arith, u .near)), u .near)
 
-        by : Dec (limit ≤ at x c + span) → Low x q mid tail limit
+        by : Dec (limit ≤ at x c + span) → ReadyCell x q mid tail limit
         by (yes m) =
             let i = g .in-due c (record { reached = record { free = g .going .free c (on .from); found = omega (arith, below, small) }; after = m }) in
             record { index = i .index; after = i .after; before = i .before; near = omega (arith, below, ap (at x) (i .here)) }
         by (no m) = absurd (omega (arith, one (k .second) c z on (k .even .1) (omega arith)))
 
-    by-step : Shape (u .heading) → Low x q mid tail limit
+    by-step : Slope (u .heading) → ReadyCell x q mid tail limit
     by-step (level e _) = absurd (omega (arith, u .near, u .sum, straight (u .heading) (at x a) e))
     by-step (upright e _) = absurd (omega (arith, u .near, u .sum, straight (u .heading) (at x a) e))
     by-step (slanted _ k) = beside k
 
-  pub some-cell : Low x q mid tail limit
+  pub some-cell : ReadyCell x q mid tail limit
   some-cell = by (decLe limit (at x z))
     where
-      past : limit ≤ at x z → (at floor z ≡ atGoal) ⊎ Support (the floor x tail (limit - span)) x z (at x z) → Low x q mid tail limit
+      past : limit ≤ at x z → (at floor z ≡ atGoal) ⊎ Support (the floor x tail (limit - span)) x z (at x z) → ReadyCell x q mid tail limit
       past far (inl e) = absurd (omega (arith, g .going .start z e, g .start))
-      past far (inr u) = by-step far u (shape (u .heading) (u .step .heading))
+      past far (inr u) = by-step far u (slope (u .heading) (u .step .heading))
 
-      by : Dec (limit ≤ at x z) → Low x q mid tail limit
+      by : Dec (limit ≤ at x z) → ReadyCell x q mid tail limit
       by (yes far) = past far (g .support z (g .due mid (omega arith) more .reached))
       by (no m) = record { index = mid; after = omega arith; before = more; near = omega arith }

@@ -1,12 +1,12 @@
--- One pass: the cells q[mid..t] that were reached and have not taken their steps when a wave begins. Those below the wave's end are ready: they
--- take their steps, and the others wait. The first ones, q[mid..fresh], waited in the wave before, and are all ready; of the fresh ones,
--- q[fresh..t], the ready ones are brought before the others.
+-- One pass: the cells q[mid..t] that were reached and have not taken their steps when a wave begins. Those below the
+-- wave's end are ready: they take their steps, and the others wait. The first ones, q[mid..fresh], waited in the wave
+-- before, and are all ready; of the fresh ones, q[fresh..t], the ready ones are brought before the others.
 use mathlib.Core.Path.{_≡_}
 use mathlib.Core.List.{List}
 use Prim.Native.Nat.{ℕ, _+_, _≤_, _<_}
 use lib.ListN.{getD, length}
 use Rattle.offers.specs.Work.{largest, span, highest, stepped, at, WorkStep}
-use Rattle.offers.specs.Wave.{Wave, Listed, Reached, Going, Falls}
+use Rattle.offers.specs.Wave.{Wave, Listed, Reached, Underway, Falls}
 use Rattle.offers.specs.Taken.{This}
 
 -- r is 1 if v is below limit, else 0
@@ -41,7 +41,7 @@ pub record Parted (x : List ℕ) (limit mid t : ℕ) (q q′ : List ℕ) (top : 
 
 -- the cells q[mid..top] are the wave's, and the queue ends where it did when the wave began
 pub record StepsReady (w : Wave) (x q : List ℕ) (mid top t : ℕ) : Type 0 where
-  pub going : Going w x q t
+  pub going : Underway w x q t
   pub small : w .limit ≤ highest
   pub begins : w .end ≡ t
   pub order : top ≤ t
@@ -53,7 +53,7 @@ pub record StepsBegun (x q : List ℕ) (mid top t : ℕ) : Type 0 where
 
 -- the cells that stand at low and after it in a list, before high, have taken their steps
 pub record StepsDone (w : Wave) (list : List ℕ) (low high : ℕ) (x q x′ q′ : List ℕ) (t′ : ℕ) : Type 0 where
-  pub going : Going w x′ q′ t′
+  pub going : Underway w x′ q′ t′
   pub falls : Falls w x q x′ q′
   pub done : (k h b : ℕ) → low ≤ k → k < high → WorkStep (w .floor) h (getD list k 0) b → at x′ b ≤ stepped h (at x (getD list k 0))
 
@@ -68,7 +68,7 @@ pub record Due (x : List ℕ) (limit p : ℕ) : Type 0 where
 
 -- the wave begins
 pub record PassReady (w : Wave) (x q : List ℕ) (mid fresh t : ℕ) : Type 0 where
-  pub going : Going w x q t
+  pub going : Underway w x q t
   pub small : w .limit ≤ highest
   pub begins : w .end ≡ t
   pub order : (mid ≤ fresh) × (fresh ≤ t)
@@ -83,7 +83,7 @@ pub record PassBegun (x q : List ℕ) (mid fresh t limit : ℕ) : Type 0 where
 
 -- the cells from mid on have taken their steps, or wait at q[top..t]
 pub record PassDone (w : Wave) (mid top : ℕ) (x q x′ q′ : List ℕ) (t′ : ℕ) : Type 0 where
-  pub going : Going w x′ q′ t′
+  pub going : Underway w x′ q′ t′
   pub low : (z : ℕ) → at x′ z ≤ at x z
   pub keep : (z : ℕ) → at x z < w .limit → at x′ z ≡ at x z
   pub high : (z : ℕ) → w .limit ≤ at x z → w .limit ≤ at x′ z

@@ -4,20 +4,21 @@ use mathlib.Core.Logic.{_⊎_}
 use mathlib.Core.List.{List}
 use Prim.Native.Nat.{ℕ, _*_, _≤_, _<_}
 use lib.ListN.{getD, length}
-use Rattle.offers.specs.Work.{unreached, largest, span, atGoal, stepped, highest, at, Inside, WorkStep, waiting}
+use Rattle.offers.specs.Work.{unreached, largest, span, atGoal, stepped, highest, at, OffBorder, WorkStep, waiting}
 use Rattle.offers.specs.Wave.{Wave, Listed}
 use Rattle.passes.specs.Pass.{StepsDone}
 
--- a floor in the work array, with nothing reached but the goal's cells, and a queue that has room for all other cells, and a place more
+-- a floor in the work array, with nothing reached but the goal's cells, and a queue that has room for all other cells,
+-- and a place more
 pub record Loaded (x q : List ℕ) : Type 0 where
   pub few : length x ≤ largest
   pub small : length q ≤ largest
   pub enough : waiting x < length q
   pub kinds : (z : ℕ) → (at x z ≡ atGoal) ⊎ ((at x z ≡ 0) ⊎ (at x z ≡ unreached))
-  pub border : (z : ℕ) → 0 < at x z → Inside x z
+  pub border : (z : ℕ) → 0 < at x z → OffBorder x z
 
 -- z with the number v was reached by a step from another reached cell
-pub record Found (floor x : List ℕ) (z v : ℕ) : Type 0 where
+pub record ReachedBy (floor x : List ℕ) (z v : ℕ) : Type 0 where
   pub heading : ℕ
   pub cell : ℕ
   pub step : WorkStep floor heading cell z
@@ -32,7 +33,7 @@ pub record Solved (floor x : List ℕ) : Type 0 where
   pub shut : (z : ℕ) → at floor z ≡ 0 → at x z ≡ 0
   pub start : (z : ℕ) → at floor z ≡ atGoal → at x z ≡ atGoal
   pub below : (z : ℕ) → at x z < unreached → at x z < highest
-  pub support : (z : ℕ) → 0 < at x z → at x z < unreached → (at floor z ≡ atGoal) ⊎ Found floor x z (at x z)
+  pub support : (z : ℕ) → 0 < at x z → at x z < unreached → (at floor z ≡ atGoal) ⊎ ReachedBy floor x z (at x z)
   pub relaxed : (h a b : ℕ) → WorkStep floor h a b → at x a < unreached → at x b ≤ stepped h (at x a)
 
 -- these are the goal's places, in any order: those that have the goal's number

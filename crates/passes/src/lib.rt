@@ -1,6 +1,7 @@
-// Wave after wave, from the goal. A wave is one straight step wide: when it begins, all numbers below its end are settled. Its cells take all
-// their steps, in whatever order; what they reach lies in the next wave or, by a diagonal step, in the one after that.
-// The goal's places take their steps first and are never queued, so that the queue has at most one cell fewer than the floor.
+// Wave after wave, from the goal. A wave is one straight step wide: when it begins, all numbers below its end are
+// settled. Its cells take all their steps, in whatever order; what they reach lies in the next wave or, by a diagonal
+// step, in the one after that. The goal's places take their steps first and are never queued, so that the queue has at
+// most one cell fewer than the floor.
 ghost use Rattle.offers.specs.Work.{at};
 ghost use Rattle.passes.specs.Pass.{Below, Place, Places, Parted, StepsBegun, StepsLeft, PassBegun, PassLeft};
 ghost use Rattle.passes.specs.Solved.{Loaded, Goals, GoalsDone, Solved};
@@ -19,9 +20,10 @@ fn ready(work: &[u32], cell: u32, limit: u32) -> usize
     if work[cell as usize] < limit { 1 } else { 0 }
 }
 
-// Brings the cells of queue[mid..tail] that are ready, below the limit, before those that wait. Gives where the first one that waits stands.
-// Which cells are ready is hard to foresee, so that each is swapped, without a test, to where the ready ones end, and counts there if it is one.
-// The first one stands there already: in a narrow aisle, where a wave has one cell, nothing is moved.
+// Brings the cells of queue[mid..tail] that are ready, below the limit, before those that wait. Gives where the first
+// one that waits stands. Which cells are ready is hard to foresee, so that each is swapped, without a test, to where
+// the ready ones end, and counts there if it is one. The first one stands there already: in a narrow aisle, where a
+// wave has one cell, nothing is moved.
 fn ready_first(work: &[u32], queue: &mut [u32], mid: usize, tail: usize, limit: u32) -> usize
     requires { ⌜ Places (now work) (now queue) mid tail ⌝ }
     ensures { λ r. ⌜ Parted (now (work .entry)) limit mid tail (now (queue .entry)) (now (queue .exit)) r ⌝ }
@@ -56,10 +58,11 @@ fn ready_steps(work: &mut [u32], queue: &mut [u32], mid: usize, top: usize, tail
     end
 }
 
-// One wave, which ends at limit, over the cells queue[mid..tail]: those below the limit take their steps, and the others wait, moved to the
-// end of their part of the queue, so that they stand right before the cells that are reached now.
-// A cell waits at most once: what was reached before a wave lies less than one straight step past that wave's end, and so below the end of the
-// next one. So the cells that waited in the wave before, queue[mid..fresh], are all ready, and only the fresh ones, which it reached, are parted.
+// One wave, which ends at limit, over the cells queue[mid..tail]: those below the limit take their steps, and the
+// others wait, moved to the end of their part of the queue, so that they stand right before the cells that are reached
+// now. A cell waits at most once: what was reached before a wave lies less than one straight step past that wave's end,
+// and so below the end of the next one. So the cells that waited in the wave before, queue[mid..fresh], are all ready,
+// and only the fresh ones, which it reached, are parted.
 fn one_wave(
     work: &mut [u32],
     queue: &mut [u32],
@@ -104,12 +107,12 @@ pub fn all_waves(work: &mut [u32], queue: &mut [u32], goals: &[u32])
     let mut mid: usize = 0;
     let mut fresh: usize = 0;
     let mut tail = goal_steps(work, queue, goals);
-    let mut limit: u32 = 3 * offers::STRAIGHT;
+    let mut limit: u32 = 3 * offers::STEP_STRAIGHT;
     while mid < tail {
         let part = one_wave(work, queue, mid, fresh, tail, limit);
         fresh = tail;
         mid = part.mid;
         tail = part.tail;
-        limit += offers::STRAIGHT;
+        limit += offers::STEP_STRAIGHT;
     }
 }

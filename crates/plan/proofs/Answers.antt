@@ -1,5 +1,4 @@
 -- What the reader's steps answer for a sound plan, and for a broken one.
--- Assumes nothing.
 use mathlib.Core.Path.{_≡_, refl, sym, _∙_, ap, subst⁻¹}
 use mathlib.Core.List.{List, [], _++_, append-nil}
 use Prim.Native.Nat.{ℕ, _+_, _*_, _<_, _≤_}
@@ -16,7 +15,7 @@ use Rattle.plan.specs.Sound.{Contents, Sound, planBytes, firstQuery}
 use Rattle.plan.specs.Break.{Wrong, Fixed, Any, Broken}
 use Rattle.plan.specs.Break.Wrong.{cut-off}
 use Rattle.plan.specs.Break.Broken.{at-floor, at-map, at-size, at-query}
-use Rattle.plan.specs.Reads.{planOf}
+use Rattle.plan.specs.Reads.{planOf, brokenAt}
 use Rattle.plan.specs.Steps.{contentAt, recordAt, fixedRecordAt, countFrom, endAt, afterEnd, afterQueries, afterSize, afterMap, afterFloor, readingOf}
 use Rattle.plan.proofs.Numbers.{number-read}
 use Rattle.plan.proofs.Chain.{right-read, wrong-read, found-at, found-fixed-at, next-rest}
@@ -112,15 +111,15 @@ sound-read bytes c s =
     }))
 
 -- a broken plan is answered with the place of its break
-pub broken-read : (bytes : List ℕ) (at : ℕ) → Broken bytes at → readingOf bytes ≡ reading.Broken at
+pub broken-read : (bytes : List ℕ) (at : ℕ) → Broken bytes at → readingOf bytes ≡ brokenAt at
 broken-read bytes at (at-floor a) =
     ap (afterFloor bytes) (wrong-read (drop 0 bytes) 0 1 (Fixed 4) (subst⁻¹ (Wrong 1 (Fixed 4)) (a .split) (a .breaks)) _ (found-fixed-at bytes 0 1 4))
-    ∙ ap reading.Broken (sym (a .place))
+    ∙ ap brokenAt (sym (a .place))
 broken-read bytes at (at-map width height a) =
     let f = floor-step bytes _ width height (a .split) in
     f .0
     ∙ (ap (afterMap bytes (contentAt 0 4)) (wrong-read (drop 8 bytes) 8 2 Any (rw (f .1) (a .breaks)) _ (found-at bytes 8 2))
-    ∙ ap reading.Broken (sym (a .place)))
+    ∙ ap brokenAt (sym (a .place)))
 broken-read bytes at (at-size width height map a) =
     let n = length map in
     let f = floor-step bytes _ width height (a .split) in
@@ -128,12 +127,14 @@ broken-read bytes at (at-size width height map a) =
     let place : 12 + n ≡ at = sym (a .place ∙ omega arith) in
     f .0
     ∙ (m .0
-    ∙ (ap (afterSize bytes (contentAt 0 4) (contentAt 8 n)) (wrong-read (drop (12 + n) bytes) (12 + n) 3 (Fixed 2) (rw (m .1) (a .breaks)) _ (found-fixed-at bytes (12 + n) 3 2))
-    ∙ ap reading.Broken place))
+    ∙ (ap (afterSize bytes (contentAt 0 4) (contentAt 8 n))
+    (wrong-read (drop (12 + n) bytes) (12 + n) 3 (Fixed 2) (rw (m .1) (a .breaks)) _ (found-fixed-at bytes (12 + n) 3 2))
+    ∙ ap brokenAt place))
 broken-read bytes at (at-query before c s a) =
     let n = length (c .map) in
     let e : bytes ≡ planBytes c ++ a .rest = a .split ∙ ap (λ (l : List ℕ). l ++ a .rest) (s .joined) in
     let place : queriesAt n + 12 * length (c .queries) ≡ at = omega (arith, a .place, ap length (s .joined), plan-length c) in
     all-counted bytes (a .rest) c e (s .few) (a .breaks .no-query)
-    ∙ (ap (afterEnd bytes (contentAt 0 4) (contentAt 8 n) (contentAt (12 + n) 2) (length (c .queries))) (later-end bytes _ (omega (arith, behind bytes (a .rest) c e, a .breaks .more)))
-    ∙ ap reading.Broken place)
+    ∙ (ap (afterEnd bytes (contentAt 0 4) (contentAt 8 n) (contentAt (12 + n) 2) (length (c .queries)))
+    (later-end bytes _ (omega (arith, behind bytes (a .rest) c e, a .breaks .more)))
+    ∙ ap brokenAt place)

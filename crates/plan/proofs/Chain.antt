@@ -9,7 +9,7 @@ use lib.ListN.{length, take, drop, length-append, length-drop, take-append-drop}
 use lib.Seq.{drop-drop, drop-at, length-take-le}
 use lib.Dec.{leb, eqb}
 use borrow.Author.Tests.{leb-true, leb-false, eqb-true, eqb-false}
-use Rattle.given.specs.Given.{pick}
+use Rattle.given.specs.Bools.{pick}
 use Rattle.plan.specs.declared.Content.{Content}
 use Rattle.plan.specs.declared.Record.{Record}
 use Rattle.plan.specs.declared.Record.the-variants.{Read, Broken}

@@ -9,5 +9,6 @@ pub mod Only
 pub mod Ways
 pub mod Counting
 pub mod Outcomes
+pub mod Asking
 pub mod Unique
 pub mod Worked

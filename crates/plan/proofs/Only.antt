@@ -1,12 +1,10 @@
 -- Bytes have one reading: no plan is sound and broken, none breaks at two places, and none has two contents.
--- Assumes nothing.
 use mathlib.Core.Path.{_≡_, refl, sym, _∙_, ap, ap₂}
 use mathlib.Core.List.{List, [], _∷_}
 use Prim.Native.Nat.{ℕ}
 use native.Mathlib.Omega.{arith}
 use lib.ListN.{length, getD, take, drop}
-use lib.Dec.{eqb}
-use Rattle.given.specs.Given.{Given, pick}
+use Rattle.given.specs.Refusing.{Given, done, refused}
 use Rattle.plan.specs.declared.Query.{Query}
 use Rattle.plan.specs.declared.Plan.{Plan}
 use Rattle.plan.specs.declared.Reading.{Reading}
@@ -29,35 +27,36 @@ not-both {bytes} {c} {at} s b =
     omega arith
 
 -- no bytes break at two places
+abbrev placeOf : Reading → ℕ
+placeOf (reading.Sound p) = 0
+placeOf (reading.Refused f) = f .place
+
 pub one-break : {bytes : List ℕ} {at at′ : ℕ} → Broken bytes at → Broken bytes at′ → at ≡ at′
 one-break {bytes} {at} {at′} b b′ =
-    let e = broken-read bytes at b in
-    let f = broken-read bytes at′ b′ in
-    cc
+    ap placeOf (sym (broken-read bytes at b) ∙ broken-read bytes at′ b′)
 
--- what the reader gives is what the steps answer, so it is one thing
-given-one : {bytes : List ℕ} {g : Given} → Reads bytes g → g ≡ readingGives (readingOf bytes)
-given-one {bytes} (Reads.sound c s e) = e ∙ ap readingGives (sym (sound-read bytes c s))
-given-one {bytes} (Reads.broken at b e) = e ∙ ap readingGives (sym (broken-read bytes at b))
-
-pub one-given : {bytes : List ℕ} {g g′ : Given} → Reads bytes g → Reads bytes g′ → g ≡ g′
-one-given p q = given-one p ∙ sym (given-one q)
-
--- and the answer is known by its number and values
+-- the answer is known by what it gives back
 answerOf : Given → Reading
-answerOf g =
-    let v : ℕ → ℕ = λ i. getD (g .values) i 0 in
-    pick (eqb (g .number) 0)
-    (reading.Sound (record { width = v 0; height = v 1; size = v 2; «map_at» = v 3; «map_len» = v 4; queries = v 5; «first_query» = v 6 }))
-    (reading.Broken (v 0))
+answerOf (done vs) =
+    let v : ℕ → ℕ = λ i. getD vs i 0 in
+    reading.Sound (record { width = v 0; height = v 1; size = v 2; «map_at» = v 3; «map_len» = v 4; queries = v 5; «first_query» = v 6 })
+answerOf (refused f) = reading.Refused f
 
 answer-back : (r : Reading) → answerOf (readingGives r) ≡ r
 unfolding answerOf
 answer-back (reading.Sound p) = refl
-answer-back (reading.Broken at) = refl
+answer-back (reading.Refused f) = refl
 
-pub gives-one : (r r′ : Reading) → readingGives r ≡ readingGives r′ → r ≡ r′
-gives-one r r′ e = sym (answer-back r) ∙ (ap answerOf e ∙ answer-back r′)
+pub reading-apart : (r r′ : Reading) → readingGives r ≡ readingGives r′ → r ≡ r′
+reading-apart r r′ e = sym (answer-back r) ∙ (ap answerOf e ∙ answer-back r′)
+
+-- the reader's answer is the steps' answer, so it is one
+read-steps : (bytes : List ℕ) (r : Reading) → Reads bytes r → r ≡ readingOf bytes
+read-steps bytes r (Reads.sound c s e) = reading-apart r _ e ∙ sym (sound-read bytes c s)
+read-steps bytes r (Reads.broken at b e) = reading-apart r _ e ∙ sym (broken-read bytes at b)
+
+pub reads-only : (bytes : List ℕ) (r r′ : Reading) → Reads bytes r → Reads bytes r′ → r ≡ r′
+reads-only bytes r r′ p q = read-steps bytes r p ∙ sym (read-steps bytes r′ q)
 
 -- queries are known by their records
 queries-one : (qs qs′ : List Query) → queryRecords qs ≡ queryRecords qs′ → qs ≡ qs′

@@ -1,10 +1,9 @@
 -- The input that document 01 gives under 'What "ways" prints', as a plan.
--- Assumes nothing.
 use mathlib.Core.Path.{refl}
 use mathlib.Core.List.{List, [], _∷_}
 use Prim.Native.Nat.{ℕ}
 use native.Mathlib.Omega.{arith}
-use Rattle.given.specs.Given.{done}
+use Rattle.plan.specs.declared.Reading.the-variants as reading
 use Rattle.plan.specs.Sound.{Contents}
 use Rattle.plan.specs.Reads.{Reads}
 
@@ -32,6 +31,7 @@ contents =
     }
 
 -- 5 by 3, 50 centimetres, 3 bytes of map at 12, and 2 queries from 21 on
-pub worked : Reads input (done (5 ∷ 3 ∷ 50 ∷ 12 ∷ 3 ∷ 2 ∷ 21 ∷ []))
+pub worked : Reads input
+    (reading.Sound (record { width = 5; height = 3; size = 50; «map_at» = 12; «map_len» = 3; queries = 2; «first_query» = 21 }))
 unfolding input contents
 worked = Reads.sound contents (record { joined = refl; few = omega arith }) refl

@@ -1,20 +1,24 @@
 -- Document 01, "Plan" and "Numbers given back": what the reader gives back.
--- Assumes nothing.
 use mathlib.Core.Path.{_≡_}
+use mathlib.Core.Bool.{Bool}
 use mathlib.Core.List.{List, [], _∷_}
 use Prim.Native.Nat.{ℕ, _+_}
+use lib.Dec.{ltb}
 use lib.ListN.{length, drop}
-use Rattle.given.specs.Given.{Given, done}
+use Rattle.given.specs.Refusing.{Given, done, refused, refuse, Answered}
 use Rattle.plan.specs.declared.Plan.{Plan}
 use Rattle.plan.specs.declared.Query.{Query}
 use Rattle.plan.specs.declared.Reading.{Reading}
 use Rattle.plan.specs.declared.Reading.the-variants as reading
+use Rattle.plan.specs.declared.Asked.{Asked}
+use Rattle.plan.specs.declared.Asked.the-variants as asked
 use Rattle.plan.specs.Records.{numberIn}
 use Rattle.plan.specs.Sound.{Contents, Sound, mapAt, firstQuery}
 use Rattle.plan.specs.Break.{Broken}
 
--- "For a sound plan the reader answers width, height, cell size, the offset and length of the map's content, and the count of the queries
--- with the offset of the first one's record, or the end if there is none; it does not judge the numbers"
+-- "For a sound plan the reader answers width, height, cell size, the offset and length of the map's content, and the
+-- count of the queries with the offset of the first one's record, or the end if there is none; it does not judge the
+-- numbers"
 abbrev pub planOf : Contents → Plan
 planOf c =
     record {
@@ -27,7 +31,7 @@ planOf c =
       «first_query» = firstQuery c;
     }
 
--- an answer's number and values: 0 with the numbers in that order, or 14, "plan broken", with the offset
+-- a plan's answer is these numbers in that order, or a refusal
 abbrev pub readingGives : Reading → Given
 readingGives (reading.Sound p) =
     done
@@ -39,12 +43,16 @@ readingGives (reading.Sound p) =
     ∷ p .queries
     ∷ p .«first_query»
     ∷ [])
-readingGives (reading.Broken at) = record { number = 14; values = at ∷ [] }
+readingGives (reading.Refused f) = refused f
+
+-- 14, "plan broken", with the offset
+abbrev pub brokenAt : ℕ → Reading
+brokenAt at = reading.Refused (record { number = 14; place = at })
 
 -- what the reader gives for these bytes: the answer of the sound plan that they are, or the place of their break
-pub data Reads (bytes : List ℕ) (g : Given) : Type 0 where
-  sound : (c : Contents) → Sound bytes c → g ≡ readingGives (reading.Sound (planOf c)) → Reads bytes g
-  broken : (at : ℕ) → Broken bytes at → g ≡ readingGives (reading.Broken at) → Reads bytes g
+pub data Reads (bytes : List ℕ) (r : Reading) : Type 0 where
+  sound : (c : Contents) → Sound bytes c → readingGives r ≡ readingGives (reading.Sound (planOf c)) → Reads bytes r
+  broken : (at : ℕ) → Broken bytes at → readingGives r ≡ readingGives (brokenAt at) → Reads bytes r
 
 -- the query whose record begins at an offset: its four numbers stand behind the record's header
 abbrev pub queryAt : List ℕ → ℕ → Query
@@ -55,3 +63,17 @@ queryAt bytes at =
       «goal_col» = numberIn (drop (at + 8) bytes);
       «goal_row» = numberIn (drop (at + 10) bytes);
     }
+
+-- a query's answer is start column, start row, goal column, goal row, or a refusal
+abbrev pub askedGives : Asked → Given
+askedGives (asked.Query q) = done (q .«start_col» ∷ q .«start_row» ∷ q .«goal_col» ∷ q .«goal_row» ∷ [])
+askedGives (asked.Refused f) = refused f
+
+-- 14: the bytes end before the 12 bytes of a query's record that begins at an offset
+unfoldable pub recordPast : List ℕ → ℕ → Bool
+recordPast bytes at = ltb (length bytes) (at + 12)
+
+-- asking for a query: 14
+abbrev pub Asks : List ℕ → ℕ → Asked → Type 0
+Asks bytes at r =
+    Answered (refuse 14 (recordPast bytes at)) (Unit {0}) (λ g. g ≡ askedGives (asked.Query (queryAt bytes at))) (askedGives r)

@@ -1,11 +1,10 @@
--- What the reader's inner functions answer, step by step. Nothing that the reader promises is stated with these: they are
--- tied to sound and broken plans by laws.
--- Assumes nothing.
+-- What the reader's inner functions answer, step by step. Nothing that the reader promises is stated with these: they
+-- are tied to sound and broken plans by laws.
 use mathlib.Core.List.{List}
 use Prim.Native.Nat.{ℕ, zero, suc, _+_, _*_}
 use lib.ListN.{length, drop}
 use lib.Dec.{ltb, leb, eqb}
-use Rattle.given.specs.Given.{pick}
+use Rattle.given.specs.Bools.{pick}
 use Rattle.plan.specs.declared.Reading.{Reading}
 use Rattle.plan.specs.declared.Reading.the-variants as reading
 use Rattle.plan.specs.declared.Content.{Content}
@@ -14,6 +13,7 @@ use Rattle.plan.specs.declared.Record.the-variants as found
 use Rattle.plan.specs.declared.End.{End}
 use Rattle.plan.specs.declared.End.the-variants as end
 use Rattle.plan.specs.Records.{numberIn, lengthIn, kindIn}
+use Rattle.plan.specs.Reads.{brokenAt}
 
 -- where the content of a record at an offset lies, and the next record
 abbrev pub contentAt : ℕ → ℕ → Content
@@ -66,22 +66,22 @@ afterEnd bytes floor map size n end.Here =
       queries = n;
       «first_query» = size .next;
     })
-afterEnd bytes floor map size n end.Later = reading.Broken (size .next + 12 * n)
+afterEnd bytes floor map size n end.Later = brokenAt (size .next + 12 * n)
 
 abbrev pub afterQueries : List ℕ → Content → Content → Content → ℕ → Reading
 afterQueries bytes floor map size n = afterEnd bytes floor map size n (endAt bytes (size .next + 12 * n))
 
 abbrev pub afterSize : List ℕ → Content → Content → Record → Reading
 afterSize bytes floor map (found.Read size) = afterQueries bytes floor map size (countFrom bytes 64 (size .next))
-afterSize bytes floor map found.Broken = reading.Broken (map .next)
+afterSize bytes floor map found.Broken = brokenAt (map .next)
 
 abbrev pub afterMap : List ℕ → Content → Record → Reading
 afterMap bytes floor (found.Read map) = afterSize bytes floor map (fixedRecordAt bytes (map .next) 3 2)
-afterMap bytes floor found.Broken = reading.Broken (floor .next)
+afterMap bytes floor found.Broken = brokenAt (floor .next)
 
 abbrev pub afterFloor : List ℕ → Record → Reading
 afterFloor bytes (found.Read floor) = afterMap bytes floor (recordAt bytes (floor .next) 2)
-afterFloor bytes found.Broken = reading.Broken 0
+afterFloor bytes found.Broken = brokenAt 0
 
 -- the reader's answer
 abbrev pub readingOf : List ℕ → Reading

@@ -3,9 +3,12 @@
 ghost use mathlib.Core.Path.{_≡_};
 ghost use Prim.Native.Nat.{_+_, _≤_};
 ghost use lib.ListN.{length, drop};
+ghost use Rattle.given.specs.Refusing.{refuse};
 ghost use Rattle.plan.specs.Records.{numberIn};
-ghost use Rattle.plan.specs.Reads.{readingGives, Reads, queryAt};
+ghost use Rattle.plan.specs.Reads.{brokenAt, Reads, queryAt, recordPast, Asks};
 ghost use Rattle.plan.specs.Steps.{recordAt, fixedRecordAt, countFrom, endAt};
+use given::Refusal;
+use given::Tested;
 
 // What a sound plan holds, and where its map and its queries lie. The numbers are not judged.
 pub struct Plan {
@@ -18,10 +21,10 @@ pub struct Plan {
     pub first_query: usize,
 }
 
-// The reader's answer: a sound plan, or the offset of the break.
+// The reader's answer: a sound plan, or a refusal with the offset of the break.
 pub enum Reading {
     Sound(Plan),
-    Broken(usize),
+    Refused(Refusal),
 }
 
 // A query: the start's column and row, and the goal's.
@@ -30,6 +33,12 @@ pub struct Query {
     pub start_row: usize,
     pub goal_col: usize,
     pub goal_row: usize,
+}
+
+// What asking for a query answers: the query, or a refusal.
+pub enum Asked {
+    Query(Query),
+    Refused(Refusal),
 }
 
 // A record's content: where it begins, how long it is, and where the next record begins.
@@ -139,23 +148,54 @@ pub fn query_at(bytes: &[u8], at: usize) -> Query
     }
 }
 
-// What the bytes are as a plan.
+// 14: a query's record, of 12 bytes, that begins at an offset lies within the bytes.
+fn test_record(bytes: &[u8], at: usize) -> Tested
+    ensures { λ r. ⌜ r ≡ refuse 14 (recordPast (now (bytes .entry)) at) ⌝ }
+{
+    if bytes.len() < 12 {
+        return given::refuse_if(14, true);
+    }
+    given::refuse_if(14, bytes.len() - 12 < at)
+}
+
+// The query whose record begins at an offset. Refusal: 14, where the bytes end before the record does.
+pub fn ask_query(bytes: &[u8], at: usize) -> Asked
+    ensures { λ r. ⌜ Asks (now (bytes .entry)) at r ⌝ }
+{
+    let tested = test_record(bytes, at);
+    let Tested::Passed = tested else {
+        return Asked::Refused(given::refusal_of(tested));
+    };
+    Asked::Query(query_at(bytes, at))
+}
+
+// 14: the plan is broken at an offset.
+fn broken(at: usize) -> Reading
+    ensures { λ r. ⌜ r ≡ brokenAt at ⌝ }
+{
+    Reading::Refused(Refusal {
+        number: 14,
+        place: at,
+    })
+}
+
+// What the bytes are as a plan. Refusal: 14, with the offset of the break.
 pub fn read(bytes: &[u8]) -> Reading
-    ensures { λ r. ⌜ Reads (now (bytes .entry)) (readingGives r) ⌝ }
+    ensures { λ r. ⌜ Reads (now (bytes .entry)) r ⌝ }
 {
     let Record::Read(floor) = fixed_record_at(bytes, 0, 1, 4) else {
-        return Reading::Broken(0);
+        return broken(0);
     };
     let Record::Read(map) = record_at(bytes, floor.next, 2) else {
-        return Reading::Broken(floor.next);
+        return broken(floor.next);
     };
     let Record::Read(size) = fixed_record_at(bytes, map.next, 3, 2) else {
-        return Reading::Broken(map.next);
+        return broken(map.next);
     };
     let queries = count_queries(bytes, size.next);
     let end = size.next + 12 * queries;
     let End::Here = end_at(bytes, end) else {
-        return Reading::Broken(end);
+        return broken(end);
     };
     Reading::Sound(Plan {
         width: number_at(bytes, floor.at),

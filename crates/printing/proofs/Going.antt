@@ -1,5 +1,4 @@
 -- Line after line in the buffer.
--- Assumes nothing.
 use mathlib.Core.Path.{_≡_, refl, ap, subst, sym, _∙_}
 use mathlib.Core.List.{List, [], _∷_, _++_, append-nil, append-assoc}
 use Prim.Native.Nat.{ℕ, zero, suc, _+_, _-_, _≤_, _<_}
@@ -12,7 +11,8 @@ use Rattle.text.specs.Put.{Put}
 use Rattle.text.proofs.Puts.{put-then, none-put, length-put}
 use Rattle.printing.specs.declared.Printed.{Printed}
 use Rattle.printing.specs.Shown.{joined, Shown}
-use Rattle.printing.specs.Lines.{LineAt, LineCount}
+use Rattle.lines.specs.declared.Head.{Head}
+use Rattle.printing.specs.Lines.{Heads, countOf, LineAt}
 use Rattle.lines.specs.LineRoom.{lineRoom}
 use Rattle.lines.specs.Written.{Writes}
 use Rattle.printing.specs.Inner.{Progress}
@@ -45,7 +45,8 @@ module _ (input : List ℕ) (from : ℕ) (old : List ℕ) where
     same = refl;
   }
 
-  module _ (mid new : List ℕ) (at next after : ℕ) (p : Progress input from old mid at next) (free : at + lineRoom ≤ length mid) (w : Writes (LineAt input next) mid at new after) where
+  module _ (mid new : List ℕ) (at next after : ℕ) (p : Progress input from old mid at next) (free : at + lineRoom ≤ length mid)
+      (w : Writes (LineAt input next) mid at new after) where
     abbrev lines : List (List ℕ)
     lines = p .shown ++ (w .bytes ∷ [])
 
@@ -85,11 +86,11 @@ module _ (input : List ℕ) (from : ℕ) (old : List ℕ) where
     }
 
   -- where it stops
-  pub going-shown : (new : List ℕ) (at next total : ℕ) → Progress input from old new at next → LineCount input total → (r : Printed)
+  pub going-shown : (new : List ℕ) (at next total : ℕ) → Progress input from old new at next → (h : Head) → Heads input h → total ≡ countOf h → (r : Printed)
       → r .length ≡ at → r .lines ≡ next - from → r .left ≡ total - next → (0 < r .left → length old < at + lineRoom) → Shown input from old r new
-  going-shown new at next total p n r e f g full = record {
-    total = total;
-    counted = n;
+  going-shown new at next total p h heads count r e f g full = record {
+    head = h;
+    heads = heads;
     shown = p .shown;
     are = p .are;
     written = subst (Put old 0 (joined (p .shown)) new) (sym e) (p .written);

@@ -1,121 +1,119 @@
--- What the first line says, as lines, and the lines of the queries behind it.
--- Assumes nothing.
+-- What the first line says of an input, step by step, and the lines of the queries behind it. The argument: an input
+-- that is too long is refused by its own test (`long-head`); else the reader's refusal is that of the break
+-- (`read-refused`), or the plan is sound (`read-sound`). The tests of a sound plan are over the map's bytes where they
+-- lie in the input, which are the contents' map (`map-is`), so what they answer is the first line (`plan-head`). Where
+-- the first line is a floor's, no test refused (`head-opened`), so the cell size is inside its limits and the floor is
+-- sound; then query i's record lies 12 × (i - 1) bytes behind the first one's (`query-in`), and its line is the line
+-- with its number (`numbered`).
 use mathlib.Core.Path.{_≡_, refl, ap, subst, sym, _∙_}
-use mathlib.Core.Bool.{Bool, true, false}
+use mathlib.Core.Bool.{false}
 use mathlib.Core.List.{List}
-use Prim.Native.Nat.{ℕ, zero, suc, _+_, _-_, _*_, _≤_, _<_}
+use Prim.Native.Nat.{ℕ, suc, _+_, _-_, _*_, _≤_, _<_}
 use native.Mathlib.Omega.{arith}
+use lib.Dec.{ltb}
 use lib.ListN.{length, getD, take, drop}
-use Rattle.given.specs.Given.{pick}
-use Rattle.given.proofs.Picked.{pick-else}
+use borrow.Author.Tests.{ltb-true, ltb-false}
+use Rattle.given.specs.declared.Refusal.{Refusal}
+use Rattle.given.specs.declared.Tested.{Tested}
+use Rattle.given.specs.declared.Tested.the-variants.{Passed, Refused}
+use Rattle.given.specs.Refusing.{firstOf, refuseAt, refusalOf}
+use Rattle.given.proofs.Refusals.{all-passed, has-passed, refuse-passed, refuse-at-passed, refuse-at-refused}
 use Rattle.lengths.specs.Answers.{sizeOutside}
-use Rattle.floor.specs.Floor.{Map, mapOf}
-use Rattle.floor.specs.Refusals.{floorRefused}
+use Rattle.floor.specs.Floor.{Map, mapOf, largestSide}
 use Rattle.floor.specs.Inner.{Sound as FloorSound}
+use Rattle.floor.proofs.Tested.{floor-asked, largest-low}
 use Rattle.steps.proofs.OnMap.{few-cells}
-use Rattle.floor.proofs.Tested.{accepted}
 use Rattle.plan.specs.declared.Plan.{Plan}
 use Rattle.plan.specs.declared.Query.{Query}
 use Rattle.plan.specs.declared.Reading.{Reading}
 use Rattle.plan.specs.declared.Reading.the-variants as reading
-use Rattle.plan.specs.Sound.{Contents, Sound, mapAt}
-use Rattle.plan.specs.Break.{Broken}
-use Rattle.plan.specs.Reads.{planOf, readingGives, Reads, queryAt}
+use Rattle.plan.specs.Sound.{Contents, mapAt}
+use Rattle.plan.specs.Reads.{planOf, brokenAt, Reads, queryAt}
 use Rattle.plan.proofs.Places.{map-within, map-there, query-within, query-there}
-use Rattle.plan.proofs.Only.{gives-one}
+use Rattle.plan.proofs.Only.{reading-apart}
 use Rattle.text.specs.Text.{line}
 use Rattle.lines.specs.declared.Head.{Head}
 use Rattle.lines.specs.declared.Head.the-variants as head
 use Rattle.printing.specs.Query.{QueryNumbers}
-use Rattle.printing.specs.Lines.{mapIn, orElse, planRefused, noQuery, LineAt, LineCount}
-use Rattle.lines.specs.Written.{headLine}
-use Rattle.printing.specs.Inner.{QueryLine, Heads, Taken, Opened, sizeHead, countOf}
+use Rattle.printing.specs.Lines.{mapIn, planTests, planHead, Heads, countOf, noQuery, LineAt}
+use Rattle.printing.specs.Inner.{QueryLine, Taken, Opened}
 
-same-plan : {p q : Plan} → head.Floor p ≡ head.Floor q → q ≡ p
+-- a refusal is no floor, and a sound plan's first line is its floor where no test refuses
+pub no-floor : {f : Refusal} {p : Plan} → head.Refused f ≡ head.Floor p → ⊥
+no-floor e = let z : _≡_ {A = ℕ} 0 1 = cc in omega arith
+
+floor-passed : (t : Tested) (p q : Plan) → planHead t p ≡ head.Floor q → (t ≡ Passed) × (q ≡ p)
+floor-passed Passed p q e = (refl, cc)
+floor-passed (Refused f) p q e = absurd (no-floor e)
+
+few : (t : Tested) (p : Plan) → p .queries ≤ 64 → countOf (planHead t p) ≤ 65
+few Passed p h = omega arith
+few (Refused f) p h = omega arith
+
+-- what a test's answer says
+pub refused-head : (t : Tested) (f r : Refusal) (p : Plan) → t ≡ Refused f → r ≡ refusalOf t → head.Refused r ≡ planHead t p
+refused-head t f r p e s = ap head.Refused (s ∙ ap refusalOf e) ∙ sym (ap (λ (x : Tested). planHead x p) e)
+
+pub passed-head : (t : Tested) (p : Plan) → t ≡ Passed → head.Floor p ≡ planHead t p
+passed-head t p e = sym (ap (λ (x : Tested). planHead x p) e)
+
+no-reading : {p : Plan} {f : Refusal} → reading.Sound p ≡ reading.Refused f → ⊥
+no-reading e = let z : _≡_ {A = ℕ} 0 1 = cc in omega arith
+
+same-plan : {p q : Plan} → reading.Sound p ≡ reading.Sound q → p ≡ q
 same-plan e = cc
 
-or-some : (k n z : ℕ) → k ≡ n → 0 < n → orElse k z ≡ n
-or-some zero n z e h = absurd (omega arith)
-or-some (suc k) n z e h = e
+same-refusal : {f g : Refusal} → reading.Refused f ≡ reading.Refused g → f ≡ g
+same-refusal e = cc
 
-or-none : (k z : ℕ) → k ≡ 0 → orElse k z ≡ z
-or-none zero z e = refl
-or-none (suc k) z e = absurd (omega arith)
+-- what the test of the input's length showed
+module _ (input : List ℕ) (t : Tested) (e : t ≡ refuseAt 14 4096 (ltb 4096 (length input))) where
+  pub long-head : (f r : Refusal) → t ≡ Refused f → r ≡ refusalOf t → Heads input (head.Refused r)
+  long-head f r p s =
+      let (long, same) = refuse-at-refused 14 4096 _ f (sym e ∙ p) in
+      Heads.too-long (ltb-true 4096 (length input) long) (ap head.Refused (s ∙ ap refusalOf p ∙ same))
 
-or-zero : (k z : ℕ) → orElse k z ≡ 0 → (k ≡ 0) × (z ≡ 0)
-or-zero zero z e = (refl, e)
-or-zero (suc k) z e = absurd (omega arith)
+  pub short-input : t ≡ Passed → length input ≤ 4096
+  short-input p = ltb-false 4096 (length input) (refuse-at-passed 14 4096 _ (has-passed t e p))
 
 module _ {input : List ℕ} where
-  -- the first line
-  pub head-first : {h : Head} → Heads input h → LineAt input 0 (headLine h)
-  head-first (Heads.too-long b) = LineAt.too-long b
-  head-first (Heads.broken at b p) = LineAt.broken at b p
-  head-first (Heads.refused c b s r) = LineAt.refused c b s r
-  head-first (Heads.floor c b s r) = LineAt.floor c b s r
-
-  -- how many lines there are
-  pub head-count : {h : Head} → Heads input h → LineCount input (countOf h)
-  head-count (Heads.too-long b) = LineCount.too-long b
-  head-count (Heads.broken at b p) = LineCount.broken at b p
-  head-count (Heads.refused c b s r) = LineCount.refused c b s r
-  head-count (Heads.floor c b s r) =
-      let e : suc (length (c .queries)) ≡ 1 + length (c .queries) = omega arith in
-      subst (LineCount input) e (LineCount.floor c b s r)
-
   pub head-few : {h : Head} → Heads input h → countOf h ≤ 65
-  head-few (Heads.too-long b) = omega arith
-  head-few (Heads.broken at b p) = omega arith
-  head-few (Heads.refused c b s r) = omega arith
-  head-few (Heads.floor c b s r) = omega (arith, s .few)
+  head-few (Heads.too-long b e) = omega (arith, ap countOf e)
+  head-few (Heads.broken at b p e) = omega (arith, ap countOf e)
+  head-few (Heads.sound c b s e) = omega (arith, ap countOf e, few (firstOf (planTests (mapIn c) (c .size))) (planOf c) (s .few))
 
-  -- a floor's plan is sound, and no refusal of it holds
+  -- a floor's plan is sound, and no test refuses it
   pub head-opened : {h : Head} → Heads input h → (p : Plan) → h ≡ head.Floor p → Opened input p
-  head-opened (Heads.too-long b) p e = absurd (let z : _≡_ {A = ℕ} 0 1 = cc in omega arith)
-  head-opened (Heads.broken at b r) p e = absurd (let z : _≡_ {A = ℕ} 0 1 = cc in omega arith)
-  head-opened (Heads.refused c b s r) p e = absurd (let z : _≡_ {A = ℕ} 0 1 = cc in omega arith)
-  head-opened (Heads.floor c b s r) p e = record { taken = record { contents = c; small = b; sound = s; plan = same-plan e }; none = r }
+  head-opened (Heads.too-long b e) p f = absurd (no-floor (sym e ∙ f))
+  head-opened (Heads.broken at b r e) p f = absurd (no-floor (sym e ∙ f))
+  head-opened (Heads.sound c b s e) p f =
+      let (none, plan) = floor-passed _ (planOf c) p (sym e ∙ f) in
+      record { taken = record { contents = c; small = b; sound = s; plan = plan }; none = none }
+
+  pub opened-head : (p : Plan) (o : Opened input p) → Heads input (head.Floor (planOf (o .taken .contents)))
+  opened-head p o = Heads.sound (o .taken .contents) (o .taken .small) (o .taken .sound) (passed-head _ _ (o .none))
 
   -- what the reader answered
-  pub read-sound : (r : Reading) (p : Plan) → length input ≤ 4096 → Reads input (readingGives r) → r ≡ reading.Sound p → Taken input p
-  read-sound r p b (Reads.sound c s e) f =
-      record { contents = c; small = b; sound = s; plan = let g : reading.Sound p ≡ reading.Sound (planOf c) = sym f ∙ gives-one r (reading.Sound (planOf c)) e in cc }
-  read-sound r p b (Reads.broken at s e) f =
-      absurd (let g : reading.Sound p ≡ reading.Broken at = sym f ∙ gives-one r (reading.Broken at) e in let z : _≡_ {A = ℕ} 0 1 = cc in omega arith)
+  pub read-sound : (r : Reading) (p : Plan) → length input ≤ 4096 → Reads input r → r ≡ reading.Sound p → Taken input p
+  read-sound r p b (Reads.sound c s e) f = record { contents = c; small = b; sound = s; plan = same-plan (sym f ∙ reading-apart r _ e) }
+  read-sound r p b (Reads.broken at s e) f = absurd (no-reading (sym f ∙ reading-apart r (brokenAt at) e))
 
-  pub read-broken : (r : Reading) (at : ℕ) → length input ≤ 4096 → Reads input (readingGives r) → r ≡ reading.Broken at → Heads input (head.Broken at)
-  read-broken r at b (Reads.sound c s e) f =
-      absurd (let g : reading.Broken at ≡ reading.Sound (planOf c) = sym f ∙ gives-one r (reading.Sound (planOf c)) e in let z : _≡_ {A = ℕ} 0 1 = cc in omega arith)
-  read-broken r at b (Reads.broken k s e) f =
-      let g : reading.Broken at ≡ reading.Broken k = sym f ∙ gives-one r (reading.Broken k) e in
-      let same : k ≡ at = cc in
-      subst (λ (n : ℕ). Heads input (head.Broken n)) same (Heads.broken k b s)
+  pub read-refused : (r : Reading) (g : Refusal) → length input ≤ 4096 → Reads input r → r ≡ reading.Refused g → Heads input (head.Refused g)
+  read-refused r g b (Reads.sound c s e) f = absurd (no-reading (sym (reading-apart r (reading.Sound (planOf c)) e) ∙ f))
+  read-refused r g b (Reads.broken at s e) f = Heads.broken at b s (ap head.Refused (same-refusal (sym f ∙ reading-apart r (brokenAt at) e)))
 
   module _ (p : Plan) (t : Taken input p) (map : List ℕ) (there : map ≡ t .contents .map) where
     -- the floor that was tested is the plan's
     tested : mapOf (p .width) (p .height) map ≡ mapIn (t .contents)
     tested = ap (λ (k : Plan). mapOf (k .width) (k .height) map) (t .plan) ∙ ap (mapOf (t .contents .width) (t .contents .height)) there
 
-    pub floor-refused : (n : ℕ) → floorRefused (mapOf (p .width) (p .height) map) ≡ n → 0 < n → Heads input (head.Refused n)
-    floor-refused n e h =
-        let first : planRefused (t .contents) ≡ n = or-some _ n _ (sym (ap floorRefused tested) ∙ e) h in
-        subst (λ (k : ℕ). Heads input (head.Refused k)) first (Heads.refused (t .contents) (t .small) (t .sound) (omega arith))
-
-    pub floor-passed : floorRefused (mapOf (p .width) (p .height) map) ≡ 0 → (h : Head) → h ≡ sizeHead p → Heads input h
-    unfolding sizeHead
-    floor-passed e h f = by (sizeOutside (t .contents .size)) refl
-      where
-        first : planRefused (t .contents) ≡ pick (sizeOutside (t .contents .size)) 13 0
-        first = or-none _ _ (sym (ap floorRefused tested) ∙ e)
-
-        says : (b : Bool) → sizeOutside (t .contents .size) ≡ b → pick b (head.Refused 13) (head.Floor (planOf (t .contents))) ≡ h
-        says b g = sym (f ∙ ap sizeHead (t .plan) ∙ ap (λ (x : Bool). pick x (head.Refused 13) (head.Floor (planOf (t .contents)))) g)
-
-        by : (b : Bool) → sizeOutside (t .contents .size) ≡ b → Heads input h
-        by true g =
-            let thirteen : planRefused (t .contents) ≡ 13 = first ∙ ap (λ (x : Bool). pick x 13 0) g in
-            subst (Heads input) (ap head.Refused thirteen ∙ says true g) (Heads.refused (t .contents) (t .small) (t .sound) (omega arith))
-        by false g = subst (Heads input) (says false g) (Heads.floor (t .contents) (t .small) (t .sound) (first ∙ ap (λ (x : Bool). pick x 13 0) g))
+    pub plan-head : (r : Tested) → r ≡ firstOf (planTests (mapOf (p .width) (p .height) map) (p .size)) → (h : Head) → h ≡ planHead r p → Heads input h
+    plan-head r e h f =
+        let c = t .contents in
+        let sized : firstOf (planTests (mapOf (p .width) (p .height) map) (p .size)) ≡ firstOf (planTests (mapOf (p .width) (p .height) map) (c .size)) =
+        ap (λ (k : Plan). firstOf (planTests (mapOf (p .width) (p .height) map) (k .size))) (t .plan) in
+        let same : r ≡ firstOf (planTests (mapIn c) (c .size)) = e ∙ sized ∙ ap (λ (m : Map). firstOf (planTests m (c .size))) tested in
+        Heads.sound c (t .small) (t .sound) (f ∙ ap (planHead r) (t .plan) ∙ ap (λ (x : Tested). planHead x (planOf c)) same)
 
   module _ (p : Plan) (o : Opened input p) (number : ℕ) (some : 0 < number) (most : number ≤ p .queries) where
     abbrev contents : Contents
@@ -135,7 +133,7 @@ module _ {input : List ℕ} where
     told e l (QueryLine.numbers ns n) =
         let up : suc (number - 1) ≡ number = omega arith in
         subst (λ (k : ℕ). LineAt input k (line ns)) up
-        (LineAt.query contents (number - 1) ns (o .taken .small) (o .taken .sound) (o .none) among
+        (LineAt.query contents (number - 1) ns (o .taken .sound) (opened-head p o) among
         (subst (λ (k : ℕ). QueryNumbers (mapIn contents) (contents .size) k (getD (contents .queries) (number - 1) noQuery) ns) (sym up)
         (subst (λ (q : Query). QueryNumbers (mapIn contents) (contents .size) number q ns) e n)))
 
@@ -149,7 +147,8 @@ module _ {input : List ℕ} where
 
     pub query-in : p .«first_query» + 12 * (number - 1) + 12 ≤ length input
     query-in =
-        subst (λ (k : Plan). k .«first_query» + 12 * (number - 1) + 12 ≤ length input) (sym (o .taken .plan)) (query-within (o .taken .sound) (number - 1) among)
+        subst (λ (k : Plan). k .«first_query» + 12 * (number - 1) + 12 ≤ length input) (sym (o .taken .plan))
+        (query-within (o .taken .sound) (number - 1) among)
 
   -- the map's content
   module _ (p : Plan) (t : Taken input p) where
@@ -167,11 +166,15 @@ module _ {input : List ℕ} where
   module _ (p : Plan) (o : Opened input p) where
     pub size-inside : sizeOutside (p .size) ≡ false
     size-inside =
-        ap (λ (k : Plan). sizeOutside (k .size)) (o .taken .plan)
-        ∙ pick-else (sizeOutside (o .taken .contents .size)) 13 0 0 (or-zero (floorRefused (mapIn (o .taken .contents))) _ (o .none) .1) (λ e. omega arith) .0
+        let c = o .taken .contents in
+        let all = all-passed (planTests (mapIn c) (c .size)) (o .none) in
+        ap (λ (k : Plan). sizeOutside (k .size)) (o .taken .plan) ∙ refuse-passed 13 _ (search)
 
     inside : FloorSound (mapIn (o .taken .contents))
-    inside = accepted (mapIn (o .taken .contents)) (or-zero (floorRefused (mapIn (o .taken .contents))) _ (o .none) .0)
+    inside =
+        let c = o .taken .contents in
+        let all = all-passed (planTests (mapIn c) (c .size)) (o .none) in
+        floor-asked largestSide (mapIn c) _ refl (search) largest-low
 
     pub floor-sound : (map : List ℕ) → map ≡ o .taken .contents .map → FloorSound (mapOf (p .width) (p .height) map)
     floor-sound map there = subst FloorSound (sym (tested p (o .taken) map there)) inside

@@ -1,33 +1,41 @@
--- Each line has one text at most, and there is one number of lines: bytes have one reading, and a query has one answer.
--- Assumes nothing.
-use mathlib.Core.Path.{_≡_, refl, ap, subst, sym}
+-- Each line has one text at most: bytes have one reading, and a query has one answer.
+use mathlib.Core.Path.{_≡_, refl, ap, subst, sym, _∙_}
 use mathlib.Core.List.{List, [], _∷_}
-use Prim.Native.Nat.{ℕ, suc, _<_}
+use Prim.Native.Nat.{ℕ, suc}
 use native.Mathlib.Omega.{arith}
 use lib.ListN.{length, getD}
+use Rattle.given.specs.declared.Refusal.{Refusal}
+use Rattle.given.specs.declared.Tested.the-variants.{Refused}
+use Rattle.given.specs.Refusing.{firstOf}
+use Rattle.given.proofs.Refusals.{not-passed}
 use Rattle.lengths.specs.declared.Length.{Length}
 use Rattle.lengths.specs.Distance.{Spoken}
 use Rattle.lengths.proofs.Rounding.{spoken-unique}
 use Rattle.floor.specs.Floor.{Map}
 use Rattle.steps.specs.Way.{Only}
 use Rattle.steps.specs.Step.{stepsOf}
-use Rattle.floor.specs.Calls.{spotCell}
 use Rattle.steps.proofs.Ways.{shortest-unique}
 use Rattle.plan.specs.declared.Query.{Query}
 use Rattle.plan.specs.Sound.{Contents}
+use Rattle.plan.specs.Reads.{planOf}
 use Rattle.plan.proofs.Only.{not-both, one-break, one-contents}
 use Rattle.walker.specs.Legs.{Leg, Legs, bytes}
 use Rattle.walker.proofs.OnFloor.{route-unique}
 use Rattle.walking.specs.Read.{Routes}
 use Rattle.walking.proofs.LegsOf.{legs-unique}
-use Rattle.text.specs.Text.{line, wordLine, floorWord}
-use Rattle.printing.specs.Query.{startOf, goalOf, QueryNumbers}
-use Rattle.printing.specs.Lines.{mapIn, planRefused, noQuery, LineAt, LineCount}
+use Rattle.text.specs.Text.{line}
+use Rattle.lines.specs.declared.Head.{Head}
+use Rattle.lines.specs.Head.{headLine}
+use Rattle.printing.specs.Query.{startCell, goalCell, QueryNumbers}
+use Rattle.printing.specs.Lines.{mapIn, planTests, planHead, brokenHead, Heads, noQuery, LineAt}
+
+same-refusal : {f g : Refusal} → Refused f ≡ Refused g → f ≡ g
+same-refusal e = cc
 
 -- a query has one answer
 module _ (m : Map) (size number : ℕ) (q : Query) where
   abbrev Route : Length → List Leg → Type 0
-  Route = Routes (stepsOf m) (Only (spotCell m (goalOf q))) (λ h. h) (spotCell m (startOf q))
+  Route = Routes (stepsOf m) (Only (goalCell m q)) (λ h. h) (startCell m q)
 
   same-legs : {a b : Length} {ls ks : List Leg} → Route a ls → Route b ks → ls ≡ ks
   same-legs {ks = ks} p r =
@@ -44,61 +52,35 @@ module _ (m : Map) (size number : ℕ) (q : Query) where
 
   pub one-query : {ns ks : List ℕ} → QueryNumbers m size number q ns → QueryNumbers m size number q ks → ns ≡ ks
   unfolding way-numbers
-  one-query (QueryNumbers.refused a) (QueryNumbers.refused b) = refl
-  one-query (QueryNumbers.refused a) (QueryNumbers.no-way z n) = absurd (omega arith)
-  one-query (QueryNumbers.refused a) (QueryNumbers.way z l ls c r s) = absurd (omega arith)
-  one-query (QueryNumbers.no-way y m) (QueryNumbers.refused b) = absurd (omega arith)
+  one-query (QueryNumbers.refused f a) (QueryNumbers.refused g b) = ap (λ (x : Refusal). number ∷ x .number ∷ []) (same-refusal (sym a ∙ b))
+  one-query (QueryNumbers.refused f a) (QueryNumbers.no-way z n) = absurd (not-passed (sym a ∙ z))
+  one-query (QueryNumbers.refused f a) (QueryNumbers.way z l ls c r s) = absurd (not-passed (sym a ∙ z))
+  one-query (QueryNumbers.no-way y m) (QueryNumbers.refused g b) = absurd (not-passed (sym b ∙ y))
   one-query (QueryNumbers.no-way y m) (QueryNumbers.no-way z n) = refl
   one-query (QueryNumbers.no-way y m) (QueryNumbers.way z l ls c r s) = absurd (m l (r .first .route .short .way))
-  one-query (QueryNumbers.way y l ls c r s) (QueryNumbers.refused b) = absurd (omega arith)
+  one-query (QueryNumbers.way y l ls c r s) (QueryNumbers.refused g b) = absurd (not-passed (sym b ∙ y))
   one-query (QueryNumbers.way y l ls c r s) (QueryNumbers.no-way z n) = absurd (n l (r .first .route .short .way))
   one-query (QueryNumbers.way y l ls c r s) (QueryNumbers.way z k ks d t u) =
       let e = same-length r t in
       same-numbers e (same-legs r t) (spoken-unique size k c d (subst (λ (a : Length). Spoken size a c) e s) u)
 
-apart : {a b : ℕ} → a ≡ b → 0 < a → b ≡ 0 → ⊥
-apart e h z = omega arith
-
-refusals : (c d : Contents) → c ≡ d → 0 < planRefused c → planRefused d ≡ 0 → ⊥
-refusals c d e h z = apart (ap planRefused e) h z
-
 module _ {input : List ℕ} where
+  -- the first line says one thing
+  pub one-head : {h k : Head} → Heads input h → Heads input k → h ≡ k
+  one-head (Heads.too-long b e) (Heads.too-long d f) = e ∙ sym f
+  one-head (Heads.too-long b e) (Heads.broken at d p f) = absurd (omega arith)
+  one-head (Heads.too-long b e) (Heads.sound c d s f) = absurd (omega arith)
+  one-head (Heads.broken at b p e) (Heads.too-long d f) = absurd (omega arith)
+  one-head (Heads.broken at b p e) (Heads.broken k d r f) = e ∙ ap brokenHead (one-break p r) ∙ sym f
+  one-head (Heads.broken at b p e) (Heads.sound c d s f) = absurd (not-both s p)
+  one-head (Heads.sound c b s e) (Heads.too-long d f) = absurd (omega arith)
+  one-head (Heads.sound c b s e) (Heads.broken at d p f) = absurd (not-both s p)
+  one-head (Heads.sound c b s e) (Heads.sound d g t f) =
+      e ∙ ap (λ (x : Contents). planHead (firstOf (planTests (mapIn x) (x .size))) (planOf x)) (one-contents s t) ∙ sym f
+
   pub one-line : {i : ℕ} {l k : List ℕ} → LineAt input i l → LineAt input i k → l ≡ k
-  one-line (LineAt.too-long b) (LineAt.too-long d) = refl
-  one-line (LineAt.too-long b) (LineAt.broken at d p) = absurd (omega arith)
-  one-line (LineAt.too-long b) (LineAt.refused c d s r) = absurd (omega arith)
-  one-line (LineAt.too-long b) (LineAt.floor c d s r) = absurd (omega arith)
-  one-line (LineAt.broken at b p) (LineAt.too-long d) = absurd (omega arith)
-  one-line (LineAt.broken at b p) (LineAt.broken k d r) = ap (λ (n : ℕ). line (14 ∷ n ∷ [])) (one-break p r)
-  one-line (LineAt.broken at b p) (LineAt.refused c d s r) = absurd (not-both s p)
-  one-line (LineAt.broken at b p) (LineAt.floor c d s r) = absurd (not-both s p)
-  one-line (LineAt.refused c b s r) (LineAt.too-long d) = absurd (omega arith)
-  one-line (LineAt.refused c b s r) (LineAt.broken at d p) = absurd (not-both s p)
-  one-line (LineAt.refused c b s r) (LineAt.refused d e t u) = ap (λ (x : Contents). line (planRefused x ∷ [])) (one-contents s t)
-  one-line (LineAt.refused c b s r) (LineAt.floor d e t u) = absurd (refusals c d (one-contents s t) r u)
-  one-line (LineAt.floor c b s r) (LineAt.too-long d) = absurd (omega arith)
-  one-line (LineAt.floor c b s r) (LineAt.broken at d p) = absurd (not-both s p)
-  one-line (LineAt.floor c b s r) (LineAt.refused d e t u) = absurd (refusals d c (one-contents t s) u r)
-  one-line (LineAt.floor c b s r) (LineAt.floor d e t u) = ap (λ (x : Contents). wordLine floorWord (x .width ∷ x .height ∷ x .size ∷ [])) (one-contents s t)
-  one-line (LineAt.query c i ns b s r h p) (LineAt.query d n ks e t u j g) =
+  one-line (LineAt.first h a) (LineAt.first k b) = ap headLine (one-head a b)
+  one-line (LineAt.query c i ns s a h p) (LineAt.query d n ks t b j g) =
       ap line
       (one-query (mapIn c) (c .size) (suc i) (getD (c .queries) i noQuery) p
       (subst (λ (x : Contents). QueryNumbers (mapIn x) (x .size) (suc i) (getD (x .queries) i noQuery) ks) (one-contents t s) g))
-
-  pub one-count : {n k : ℕ} → LineCount input n → LineCount input k → n ≡ k
-  one-count (LineCount.too-long b) (LineCount.too-long d) = refl
-  one-count (LineCount.too-long b) (LineCount.broken at d p) = refl
-  one-count (LineCount.too-long b) (LineCount.refused c d s r) = refl
-  one-count (LineCount.too-long b) (LineCount.floor c d s r) = absurd (omega arith)
-  one-count (LineCount.broken at b p) (LineCount.too-long d) = refl
-  one-count (LineCount.broken at b p) (LineCount.broken k d r) = refl
-  one-count (LineCount.broken at b p) (LineCount.refused c d s r) = refl
-  one-count (LineCount.broken at b p) (LineCount.floor c d s r) = absurd (not-both s p)
-  one-count (LineCount.refused c b s r) (LineCount.too-long d) = refl
-  one-count (LineCount.refused c b s r) (LineCount.broken at d p) = refl
-  one-count (LineCount.refused c b s r) (LineCount.refused d e t u) = refl
-  one-count (LineCount.refused c b s r) (LineCount.floor d e t u) = absurd (refusals c d (one-contents s t) r u)
-  one-count (LineCount.floor c b s r) (LineCount.too-long d) = absurd (omega arith)
-  one-count (LineCount.floor c b s r) (LineCount.broken at d p) = absurd (not-both s p)
-  one-count (LineCount.floor c b s r) (LineCount.refused d e t u) = absurd (refusals d c (one-contents t s) u r)
-  one-count (LineCount.floor c b s r) (LineCount.floor d e t u) = ap (λ (x : Contents). suc (length (x .queries))) (one-contents s t)

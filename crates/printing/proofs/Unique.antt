@@ -1,6 +1,5 @@
--- No second answer and no second buffer meet the contract of printing, as the checker reads it: each line has one text, and how many are
--- written is known from their lengths.
--- Assumes nothing.
+-- No second answer and no second buffer meet the contract of printing, as the checker reads it: each line has one
+-- text, and how many are written is known from their lengths.
 use mathlib.Core.Path.{_≡_, ap, subst, sym, _∙_}
 use mathlib.Core.List.{List, []}
 use Prim.Native.Nat.{ℕ, suc, _≤_, _<_}
@@ -9,23 +8,27 @@ use native.Mathlib.Decide.{decLe}
 use denote.Ref.{now}
 use lib.ListN.{length, getD, take, length-take}
 use lib.Seq.{getD-take, ext-getD}
+use Rattle.plan.specs.Reads.{planOf}
 use Rattle.text.specs.Put.{put}
+use Rattle.lines.specs.declared.Head.{Head}
+use Rattle.lines.specs.declared.Head.the-variants as head
 use Rattle.printing.specs.declared.Printed.{Printed}
 use Rattle.printing.specs.Shown.{joined, Shown}
-use Rattle.printing.specs.Lines.{LineAt, LineCount}
-use Rattle.printing.proofs.OneLine.{one-line, one-count}
+use Rattle.printing.specs.Lines.{Heads, countOf, LineAt}
+use Rattle.printing.proofs.OneLine.{one-head, one-line}
 use Rattle.printing.proofs.print_lines.Reads as print-lines
 
 -- a line that is printed is one of those there are
-line-below : {input : List ℕ} {i n : ℕ} {l : List ℕ} → LineAt input i l → LineCount input n → i < n
-line-below {input} {i} {n} a b = let (total, below, count) = by a in subst (λ (k : ℕ). i < k) (one-count count b) below
+line-below : {input : List ℕ} {i : ℕ} {l : List ℕ} → LineAt input i l → (h : Head) → Heads input h → i < countOf h
+line-below {input} {i} a h b = let (k, c, below) = by a in subst (λ (x : Head). i < countOf x) (one-head c b) below
   where
-    by : {j : ℕ} {k : List ℕ} → LineAt input j k → (total : ℕ) × (j < total) × LineCount input total
-    by (LineAt.too-long d) = (1, omega arith, LineCount.too-long d)
-    by (LineAt.broken at d p) = (1, omega arith, LineCount.broken at d p)
-    by (LineAt.refused c d s r) = (1, omega arith, LineCount.refused c d s r)
-    by (LineAt.floor c d s r) = (suc (length (c .queries)), omega arith, LineCount.floor c d s r)
-    by (LineAt.query c j ns d s r h q) = (suc (length (c .queries)), omega arith, LineCount.floor c d s r)
+    some : (k : Head) → 0 < countOf k
+    some (head.Refused f) = omega arith
+    some (head.Floor p) = omega arith
+
+    by : {j : ℕ} {l : List ℕ} → LineAt input j l → (k : Head) × Heads input k × (j < countOf k)
+    by (LineAt.first k c) = (k, c, some k)
+    by (LineAt.query c j ns s a h q) = (head.Floor (planOf c), a, omega arith)
 
 module _ (input : List ℕ) (from : ℕ) (old : List ℕ) where
   module _ {r r′ : Printed} {new new′ : List ℕ} (a : Shown input from old r new) (b : Shown input from old r′ new′) where
@@ -42,19 +45,20 @@ module _ (input : List ℕ) (from : ℕ) (old : List ℕ) where
     -- no lines are left out while there is room
     not-fewer : length (a .shown) < length (b .shown) → ⊥
     not-fewer h =
-        let below = line-below (b .are (length (a .shown)) h) (a .counted) in
+        let below = line-below (b .are (length (a .shown)) h) (a .head) (a .heads) in
         let full = a .full (omega (arith, a .rest)) in
         let front = ap (λ (ls : List (List ℕ)). length (joined ls)) (begins (omega arith)) in
         omega (arith, b .room (length (a .shown)) h, a .written .follows)
 
   pub shown-only : (r r′ : Printed) (new new′ : List ℕ) → Shown input from old r new → Shown input from old r′ new′ → (r ≡ r′) × (new ≡ new′)
   shown-only r r′ new new′ a b =
-      let n : length (a .shown) ≡ length (b .shown) = same-count (decLe (suc (length (a .shown))) (length (b .shown))) (decLe (suc (length (b .shown))) (length (a .shown))) in
+      let n : length (a .shown) ≡ length (b .shown) =
+      same-count (decLe (suc (length (a .shown))) (length (b .shown))) (decLe (suc (length (b .shown))) (length (a .shown))) in
       let e : a .shown ≡ b .shown = ext-getD [] (a .shown) (b .shown) n (λ i h. agree a b i h (omega arith)) in
       let bytes : r .length ≡ r′ .length =
       omega (arith, a .written .follows, b .written .follows, ap (λ (ls : List (List ℕ)). length (joined ls)) e) in
       let lines : r .lines ≡ r′ .lines = omega (arith, a .count, b .count) in
-      let left : r .left ≡ r′ .left = omega (arith, a .rest, b .rest, one-count (a .counted) (b .counted)) in (
+      let left : r .left ≡ r′ .left = omega (arith, a .rest, b .rest, ap countOf (one-head (a .heads) (b .heads))) in (
         λ i. record { length = bytes i; lines = lines i; left = left i },
         a .written .written ∙ ap (λ (ls : List (List ℕ)). put old 0 (joined ls)) e ∙ sym (b .written .written),
       )

@@ -1,32 +1,57 @@
--- Document 01, `What "ways" prints`, line by line: which line has a number, counted from 0, and how many lines there are. That there is one list of
--- lines with these numbers, the document's, is proved in proofs/Apart.
--- Assumes nothing.
+-- Document 01, `What "ways" prints`, line by line: what the first line says, which line has a number, counted from 0,
+-- and how many lines there are. That there is one list of lines with these numbers, the document's, is proved in
+-- proofs/Apart.
 use mathlib.Core.Path.{_≡_}
 use mathlib.Core.List.{List, [], _∷_}
-use Prim.Native.Nat.{ℕ, zero, suc, _≤_, _<_}
+use Prim.Native.Nat.{ℕ, suc, _+_, _≤_, _<_}
 use lib.ListN.{length, getD}
-use Rattle.given.specs.Given.{pick}
+use Rattle.given.specs.declared.Tested.{Tested}
+use Rattle.given.specs.declared.Tested.the-variants as tested
+use Rattle.given.specs.Refusing.{refuse, firstOf}
 use Rattle.lengths.specs.Answers.{sizeOutside}
-use Rattle.floor.specs.Floor.{Map, mapOf}
-use Rattle.floor.specs.Refusals.{floorRefused}
+use Rattle.floor.specs.Floor.{Map, mapOf, largestSide}
+use Rattle.floor.specs.Tests.{floorTested}
+use Rattle.plan.specs.declared.Plan.{Plan}
 use Rattle.plan.specs.declared.Query.{Query}
 use Rattle.plan.specs.Sound.{Contents, Sound}
 use Rattle.plan.specs.Break.{Broken}
-use Rattle.text.specs.Text.{line, wordLine, floorWord}
+use Rattle.plan.specs.Reads.{planOf}
+use Rattle.text.specs.Text.{line}
+use Rattle.lines.specs.declared.Head.{Head}
+use Rattle.lines.specs.declared.Head.the-variants as head
+use Rattle.lines.specs.Head.{headLine}
 use Rattle.printing.specs.Query.{QueryNumbers}
 
 -- the floor of a plan
 abbrev pub mapIn : Contents → Map
 mapIn c = mapOf (c .width) (c .height) (c .map)
 
--- a number, or another where it is 0
-abbrev pub orElse : ℕ → ℕ → ℕ
-orElse zero n = n
-orElse (suc k) n = suc k
+-- 1, 2, 3 or 13, the first that holds
+abbrev pub planTests : Map → (size : ℕ) → List Tested
+planTests m size = floorTested largestSide m ∷ refuse 13 (sizeOutside size) ∷ []
 
--- refusal 1, 2, 3 or 13, the first that holds
-abbrev pub planRefused : Contents → ℕ
-planRefused c = orElse (floorRefused (mapIn c)) (pick (sizeOutside (c .size)) 13 0)
+-- what the first line says of a sound plan: a refusal, or its floor
+abbrev pub planHead : Tested → Plan → Head
+planHead (tested.Refused f) p = head.Refused f
+planHead tested.Passed p = head.Floor p
+
+-- 14 with an offset
+abbrev pub brokenHead : ℕ → Head
+brokenHead at = head.Refused (record { number = 14; place = at })
+
+-- what the first line says
+pub data Heads (input : List ℕ) (h : Head) : Type 0 where
+  -- input over 4,096 bytes prints "14 4096"
+  too-long : 4096 < length input → h ≡ brokenHead 4096 → Heads input h
+  -- a broken plan prints "14" and the offset
+  broken : (at : ℕ) → length input ≤ 4096 → Broken input at → h ≡ brokenHead at → Heads input h
+  -- else refusal 1, 2, 3 or 13, the first that holds; otherwise "floor", width, height, cell size
+  sound : (c : Contents) → length input ≤ 4096 → Sound input c → h ≡ planHead (firstOf (planTests (mapIn c) (c .size))) (planOf c) → Heads input h
+
+-- how many lines there are
+abbrev pub countOf : Head → ℕ
+countOf (head.Refused f) = 1
+countOf (head.Floor p) = 1 + p .queries
 
 -- what stands past the end of the queries
 abbrev pub noQuery : Query
@@ -34,24 +59,8 @@ noQuery = record { «start_col» = 0; «start_row» = 0; «goal_col» = 0; «goa
 
 -- the line with this number
 pub data LineAt (input : List ℕ) : ℕ → List ℕ → Type 0 where
-  -- input over 4,096 bytes prints "14 4096"
-  too-long : 4096 < length input → LineAt input 0 (line (14 ∷ 4096 ∷ []))
-  -- a broken plan prints "14" and the offset
-  broken : (at : ℕ) → length input ≤ 4096 → Broken input at → LineAt input 0 (line (14 ∷ at ∷ []))
-  -- else refusal 1, 2, 3 or 13, the first that holds, alone on a line
-  refused : (c : Contents) → length input ≤ 4096 → Sound input c → 0 < planRefused c → LineAt input 0 (line (planRefused c ∷ []))
-  -- otherwise a line "floor", width, height, cell size
-  floor :
-      (c : Contents) → length input ≤ 4096 → Sound input c → planRefused c ≡ 0
-      → LineAt input 0 (wordLine floorWord (c .width ∷ c .height ∷ c .size ∷ []))
-  -- then for each query its number from 1, and its answer
+  first : (h : Head) → Heads input h → LineAt input 0 (headLine h)
+  -- where the first line is a floor's, then for each query its number from 1, and its answer
   query :
-      (c : Contents) (i : ℕ) (ns : List ℕ) → length input ≤ 4096 → Sound input c → planRefused c ≡ 0 → i < length (c .queries)
+      (c : Contents) (i : ℕ) (ns : List ℕ) → Sound input c → Heads input (head.Floor (planOf c)) → i < length (c .queries)
       → QueryNumbers (mapIn c) (c .size) (suc i) (getD (c .queries) i noQuery) ns → LineAt input (suc i) (line ns)
-
--- how many lines there are
-pub data LineCount (input : List ℕ) : ℕ → Type 0 where
-  too-long : 4096 < length input → LineCount input 1
-  broken : (at : ℕ) → length input ≤ 4096 → Broken input at → LineCount input 1
-  refused : (c : Contents) → length input ≤ 4096 → Sound input c → 0 < planRefused c → LineCount input 1
-  floor : (c : Contents) → length input ≤ 4096 → Sound input c → planRefused c ≡ 0 → LineCount input (suc (length (c .queries)))

@@ -1,11 +1,39 @@
 // What the first line says: the first refusal of a plan, or its floor, and so how many lines there are.
 ghost use mathlib.Core.Path.{_≡_};
 ghost use Prim.Native.Nat.{_≤_};
-ghost use Rattle.printing.specs.Inner.{Heads, Taken, sizeHead, countOf};
-use floor::Accepted;
+ghost use lib.Dec.{ltb};
+ghost use lib.ListN.{length};
+ghost use Rattle.given.specs.Refusing.{refuseAt, firstOf};
+ghost use Rattle.floor.specs.Floor.{mapOf};
+ghost use Rattle.printing.specs.Lines.{planTests, Heads, countOf};
+ghost use Rattle.printing.specs.Inner.{Taken};
+use floor::links;
+use given::Tested;
 use lines::Head;
 use plan::Plan;
 use plan::Reading;
+
+// 14: the input has at most 4,096 bytes.
+fn test_input(input: &[u8]) -> Tested
+    ensures { λ r. ⌜ r ≡ refuseAt 14 4096 (ltb 4096 (length (now (input .entry)))) ⌝ }
+{
+    given::refuse_at(14, 4096, 4096 < input.len())
+}
+
+// 1, 2, 3, 13, in this order.
+fn test_plan(plan: Plan, map: &[u8]) -> Tested
+    ensures { λ r. ⌜ r ≡ firstOf (planTests (mapOf (plan .width) (plan .height) (now (map .entry))) (plan .size)) ⌝ }
+{
+    let floor = links::test_floor(floor::LARGEST_SIDE, plan.width, plan.height, map);
+    let Tested::Passed = floor else {
+        return floor;
+    };
+    let sized = lengths::test_size(plan.size);
+    let Tested::Passed = sized else {
+        return sized;
+    };
+    Tested::Passed
+}
 
 // What the first line says of a sound plan.
 fn head_of_plan(input: &[u8], plan: Plan) -> Head
@@ -14,22 +42,10 @@ fn head_of_plan(input: &[u8], plan: Plan) -> Head
 {
     let start = plan.map_at;
     let end = plan.map_at + plan.map_len;
-    match floor::accept(plan.width, plan.height, &input[start..end]) {
-        Accepted::Refused(n) => Head::Refused(n as usize),
-        Accepted::Floor(_) => head_of_size(plan),
-    }
-}
-
-// What the first line says of a plan whose floor is accepted.
-fn head_of_size(plan: Plan) -> Head
-    ensures { λ r. ⌜ r ≡ sizeHead plan ⌝ }
-{
-    if plan.size < 1 {
-        return Head::Refused(13);
-    }
-    if 1000 < plan.size {
-        return Head::Refused(13);
-    }
+    let tested = test_plan(plan, &input[start..end]);
+    let Tested::Passed = tested else {
+        return Head::Refused(given::refusal_of(tested));
+    };
     Head::Floor(plan)
 }
 
@@ -37,11 +53,12 @@ fn head_of_size(plan: Plan) -> Head
 pub fn head_of(input: &[u8]) -> Head
     ensures { λ r. ⌜ Heads (now (input .entry)) r ⌝ }
 {
-    if 4096 < input.len() {
-        return Head::Broken(4096);
-    }
+    let tested = test_input(input);
+    let Tested::Passed = tested else {
+        return Head::Refused(given::refusal_of(tested));
+    };
     match plan::read(input) {
-        Reading::Broken(at) => Head::Broken(at),
+        Reading::Refused(refusal) => Head::Refused(refusal),
         Reading::Sound(plan) => head_of_plan(input, plan),
     }
 }
@@ -52,7 +69,6 @@ pub fn count_of(head: Head) -> usize
     ensures { λ r. ⌜ r ≡ countOf head ⌝ }
 {
     match head {
-        Head::Broken(_) => 1,
         Head::Refused(_) => 1,
         Head::Floor(plan) => 1 + plan.queries,
     }

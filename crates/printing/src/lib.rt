@@ -10,9 +10,9 @@ ghost use Rattle.floor.specs.Inner.{Sound};
 ghost use Rattle.lines.specs.declared.Head.the-variants as head;
 ghost use Rattle.lines.specs.LineRoom.{lineRoom};
 ghost use Rattle.lines.specs.Written.{Writes};
-ghost use Rattle.printing.specs.Lines.{LineAt};
+ghost use Rattle.printing.specs.Lines.{Heads, countOf, LineAt};
 ghost use Rattle.printing.specs.Shown.{Shown};
-ghost use Rattle.printing.specs.Inner.{QueryLine, Heads, countOf};
+ghost use Rattle.printing.specs.Inner.{QueryLine};
 use lines::Head;
 use plan::Plan;
 use plan::Query;
@@ -115,7 +115,6 @@ fn put_line(
         return lines::put_head(out, at, head);
     }
     match head {
-        Head::Broken(_) => at,
         Head::Refused(_) => at,
         Head::Floor(plan) => put_numbered(input, plan, index, table, legs, out, at),
     }
@@ -157,7 +156,8 @@ fn print_with(
     }
 }
 
-// Writes the lines that are printed for the input, from number `from` on, as many as surely fit, and answers what it wrote.
+// Writes the lines that are printed for the input, from number `from` on, as many as surely fit, and answers what it
+// wrote.
 pub fn print_lines(input: &[u8], from: usize, out: &mut [u8]) -> Printed
     ensures { λ r. ⌜ Shown (now (input .entry)) from (now (out .entry)) r (now (out .exit)) ⌝ }
     ensures { λ r. ⌜ Counts (r .length) (now (out .exit)) ⌝ }

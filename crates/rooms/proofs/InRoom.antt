@@ -1,5 +1,4 @@
 -- Between two cells of a rectangle of open cells the room formula is a way's length, so it is the shortest.
--- Assumes nothing.
 use mathlib.Core.Path.{_≡_, refl, ap, sym, subst, subst₂, _∙_}
 use mathlib.Core.Logic.{_⊎_, inl, inr}
 use Prim.Native.Nat.{ℕ, zero, suc, _+_, _-_, min, max, _≤_, _<_}

@@ -1,4 +1,3 @@
-pub mod All
 pub mod RoomFormula
 pub mod Apart
 pub mod InRoom

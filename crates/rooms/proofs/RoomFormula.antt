@@ -1,5 +1,4 @@
 -- The room formula: (|dx − dy|, the lesser of dx and dy) is not above any way, by the steps' column and row changes.
--- Assumes nothing.
 use mathlib.Core.Path.{_≡_, sym, subst}
 use Prim.Native.Nat.{ℕ, suc, _+_, _-_, min, _≤_}
 use native.Mathlib.Omega.{arith}

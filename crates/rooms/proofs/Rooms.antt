@@ -1,6 +1,5 @@
--- The room around an open cell: a free rectangle that has the cell in it, that cannot be widened west or east, and whose column through the cell
--- cannot be lengthened north or south.
--- Assumes nothing.
+-- The room around an open cell: a free rectangle that has the cell in it, that cannot be widened west or east, and
+-- whose column through the cell cannot be lengthened north or south.
 use mathlib.Core.Path.{_≡_, refl, sym, subst}
 use mathlib.Core.Logic.{_⊎_, inl, inr, ⊎-elim}
 use mathlib.Core.Bool.{Bool, true, false}

@@ -1,15 +1,14 @@
--- How far one can go on: `run` is the one number that passes all before it and stops at the end or at one that fails. The two directions that
--- growth goes in, backward (north, west) and forward (south, east), are said once over any test.
--- Assumes nothing.
+-- How far one can go on: `run` is the one number that passes all before it and stops at the end or at one that fails.
+-- The two directions that growth goes in, backward (north, west) and forward (south, east), are said once over any
+-- test.
 use mathlib.Core.Path.{_≡_, refl, sym, _∙_, subst}
 use mathlib.Core.Bool.{Bool, true, false, true≢false}
 use mathlib.Core.Logic.{_⊎_, inl, inr}
 use Prim.Native.Nat.{ℕ, zero, suc, _+_, _-_, _≤_, _<_}
 use native.Mathlib.Decide.{decLt}
 use native.Mathlib.Omega.{arith}
-use Rattle.given.specs.Given.{pick}
-use Rattle.rooms.specs.Room.{run, allBelow}
-use Rattle.rooms.proofs.All.{all-at, all-from, all-fails, some-fails}
+use Rattle.given.specs.Bools.{run, allBelow, pick}
+use Rattle.given.proofs.Bools.{all-at, all-from, all-fails, some-fails}
 
 -- i is as far as one can go: all before it pass, and it is the end or fails
 record Runs (test : ℕ → Bool) (n i : ℕ) : Type 0 where

@@ -1,3 +1,2 @@
 pub mod Room
 pub mod Answers
-pub mod Inner

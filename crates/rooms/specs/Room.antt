@@ -1,21 +1,10 @@
--- Document 01, "Rooms": from the cell go north and south while cells are open, then widen this column run west and east while the whole
--- next column of that height is open. The answer is left, top, right, bottom.
--- Assumes nothing.
-use mathlib.Core.Bool.{Bool, true}
-use Prim.Native.Nat.{ℕ, zero, suc, _+_, _-_}
-use Rattle.given.specs.Given.{pick}
+-- Document 01, "Rooms": from the cell go north and south while cells are open, then widen this column run west and
+-- east while the whole next column of that height is open. The answer is left, top, right, bottom.
+use mathlib.Core.Bool.{Bool}
+use Prim.Native.Nat.{ℕ, _+_, _-_}
+use Rattle.given.specs.Bools.{run, allBelow}
 use Rattle.rooms.specs.declared.Room.{Room}
-use Rattle.floor.specs.Floor.{Map, both, open?}
-
--- how far one can go on: how many of the first n pass the test, up to the first that does not
-abbrev pub run : (ℕ → Bool) → ℕ → ℕ
-run test zero = 0
-run test (suc n) = pick (test 0) (suc (run (λ i. test (suc i)) n)) 0
-
--- all of the first n pass the test
-abbrev pub allBelow : (ℕ → Bool) → ℕ → Bool
-allBelow test zero = true
-allBelow test (suc n) = both (allBelow test n) (test n)
+use Rattle.floor.specs.Floor.{Map, open?}
 
 -- north and south while cells are open
 unfoldable pub topOf : Map → ℕ → ℕ → ℕ

@@ -12,7 +12,7 @@ pub fn north_end(width: usize, height: usize, map: &[u8], column: usize, row: us
 {
     let mut top = row;
     while 0 < top {
-        if !floor::tests::open_at(width, height, map, column, top - 1) {
+        if !floor::cells::open_at(width, height, map, column, top - 1) {
             return top;
         }
         top -= 1;
@@ -28,7 +28,7 @@ pub fn south_end(width: usize, height: usize, map: &[u8], column: usize, row: us
 {
     let mut bottom = row;
     while bottom + 1 < height {
-        if !floor::tests::open_at(width, height, map, column, bottom + 1) {
+        if !floor::cells::open_at(width, height, map, column, bottom + 1) {
             return bottom;
         }
         bottom += 1;
@@ -51,7 +51,7 @@ fn column_open(
 {
     let mut row = top;
     while row <= bottom {
-        if !floor::tests::open_at(width, height, map, column, row) {
+        if !floor::cells::open_at(width, height, map, column, row) {
             return false;
         }
         row += 1;

@@ -1,11 +1,12 @@
 // Rooms: the room around a cell, as a rectangle of open cells.
 ghost use mathlib.Core.Path.{_≡_};
-ghost use Rattle.floor.specs.Floor.{mapOf};
-ghost use Rattle.rooms.specs.Answers.{roomedGives, Rooms};
-ghost use Rattle.rooms.specs.Inner.{roomRefusal};
-use floor::Accepted;
-use floor::Place;
-use floor::Test;
+ghost use Rattle.given.specs.Refusing.{firstOf};
+ghost use Rattle.floor.specs.Floor.{mapOf, spotOf};
+ghost use Rattle.rooms.specs.Answers.{roomTests, Rooms};
+use floor::LARGEST_SIDE;
+use floor::links;
+use given::Refusal;
+use given::Tested;
 
 mod growth;
 
@@ -17,35 +18,38 @@ pub struct Room {
     pub bottom: usize,
 }
 
-// What asking for a room answers: the room, or the refusal's number.
+// What asking for a room answers: the room, or the refusal.
 pub enum Roomed {
     Room(Room),
-    Refused(u8),
+    Refused(Refusal),
 }
 
-// The number of a floor's refusal, as a room's.
-fn floor_refusal(a: Accepted) -> Roomed
-    ensures { λ r. ⌜ r ≡ roomRefusal a ⌝ }
+// The tests of asking for a room: 1, 2, 3, 5, 7, in this order.
+fn test_cell(width: usize, height: usize, map: &[u8], column: usize, row: usize) -> Tested
+    ensures { λ r. ⌜ r ≡ firstOf (roomTests (mapOf width height (now (map .entry))) (spotOf column row)) ⌝ }
 {
-    match a {
-        Accepted::Floor(_) => Roomed::Refused(0),
-        Accepted::Refused(n) => Roomed::Refused(n),
-    }
+    let floor = links::test_floor(LARGEST_SIDE, width, height, map);
+    let Tested::Passed = floor else {
+        return floor;
+    };
+    let on = links::test_on(5, width, height, column, row);
+    let Tested::Passed = on else {
+        return on;
+    };
+    let free = links::test_open(7, width, height, map, column, row);
+    let Tested::Passed = free else {
+        return free;
+    };
+    Tested::Passed
 }
 
 // The room around a cell: 1, 2, 3, 5, 7, in this order.
 pub fn room_around(width: usize, height: usize, map: &[u8], column: usize, row: usize) -> Roomed
-    ensures { λ r. ⌜ Rooms (mapOf width height (now (map .entry))) column row (roomedGives r) ⌝ }
+    ensures { λ r. ⌜ Rooms (mapOf width height (now (map .entry))) (spotOf column row) r ⌝ }
 {
-    let accepted = floor::accept(width, height, map);
-    let Accepted::Floor(_) = accepted else {
-        return floor_refusal(accepted);
-    };
-    let Place::On(_) = floor::tests::test_place(width, height, column, row) else {
-        return Roomed::Refused(5);
-    };
-    let Test::Passed = floor::tests::test_open(width, height, map, column, row) else {
-        return Roomed::Refused(7);
+    let tested = test_cell(width, height, map, column, row);
+    let Tested::Passed = tested else {
+        return Roomed::Refused(given::refusal_of(tested));
     };
     let top = growth::north_end(width, height, map, column, row);
     let bottom = growth::south_end(width, height, map, column, row);

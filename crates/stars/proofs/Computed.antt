@@ -1,5 +1,5 @@
--- A computed test of a case, and that a case that passes it holds: the stated answer meets the promise, and no second one does.
--- Assumes nothing.
+-- A computed test of a case, and that a case that passes it holds: the stated answer meets the promise, and no second
+-- one does.
 use mathlib.Core.Path.{_≡_, refl, ap, ap₂, _∙_}
 use mathlib.Core.Bool.{Bool, true, false, false≢true}
 use mathlib.Core.List.{List, [], _∷_}
@@ -8,38 +8,36 @@ use native.Mathlib.Omega.{arith}
 use borrow.Author.Tests.{eqb-true, leb-true, ltb-true}
 use lib.Dec.{eqb, leb, ltb}
 use lib.ListN.{length}
-use Rattle.given.specs.Given.{Given, done, pick, either}
-use Rattle.given.proofs.Answering.{answer-done}
+use Rattle.given.specs.declared.Tested.{Tested}
+use Rattle.given.specs.declared.Tested.the-variants.{Passed, Refused}
+use Rattle.given.specs.Bools.{pick, either, both, allBelow}
+use Rattle.given.specs.Refusing.{Given, done, refused, firstOf, gives}
+use Rattle.given.proofs.Bools.{both-true}
+use Rattle.given.proofs.Refusals.{work-done}
 use Rattle.lengths.specs.declared.Length.{Length}
 use Rattle.lengths.specs.Order.{shorter}
 use Rattle.lengths.specs.Distance.{Spoken}
-use Rattle.lengths.specs.Answers.{compareRefused, distanceRefused}
+use Rattle.lengths.specs.Answers.{compareTests, distanceTests}
 use Rattle.lengths.proofs.Rounding.{spoken-unique}
-use Rattle.rooms.specs.declared.Roomed.the-variants as roomed
-use Rattle.floor.specs.Floor.{Map, both, cells}
+use Rattle.floor.specs.Floor.{Map, cells, spotCell, largestSide}
 use Rattle.floor.specs.Inner.{Sound}
+use Rattle.floor.specs.Tests.{floorTested}
+use Rattle.floor.proofs.Tested.{floor-asked, largest-low}
 use Rattle.steps.specs.Leading.{leadOf}
-use Rattle.floor.specs.Refusals.{floorRefused}
-use Rattle.floor.specs.Calls.{spotCell, tableRefused, routeRefused}
-use Rattle.rooms.specs.Answers.{roomedGives, roomRefused}
-use Rattle.rooms.specs.Room.{allBelow, roomOf}
 use Rattle.steps.specs.Step.{stepsOf}
 use Rattle.steps.specs.Way.{Only}
-use Rattle.floor.proofs.Joined.{both-true}
-use Rattle.floor.proofs.Tested.{accepted}
+use Rattle.rooms.specs.declared.Roomed.the-variants as roomed
+use Rattle.rooms.specs.Answers.{roomTests, roomedGives}
+use Rattle.rooms.specs.Room.{roomOf}
+use Rattle.calls.specs.Calls.{goalTests, routeTests}
 use Rattle.entries.specs.Filled.{Filled}
-use Rattle.table.specs.declared.CheckAnswer.{CheckAnswer}
-use Rattle.table.specs.declared.CheckAnswer.the-variants as checked
-use Rattle.table.specs.declared.FillAnswer.the-variants as filling
-use Rattle.table.specs.Answers.{fillGives, checkGives}
 use Rattle.table.proofs.Unique.{fills-only, checks-only}
 use Rattle.route.specs.Answers.{answerGives}
 use Rattle.route.specs.Inner.{readAnswer}
 use Rattle.route.proofs.Unique.{finds-only}
-use Rattle.route.proofs.WaysOut.{routed}
-use Rattle.stars.specs.Starred.{Case, compare, distance, room, fill, check, find, Holds, All, written}
+use Rattle.stars.specs.Starred.{Case, compare, distance, room, fill, check, find, toGoal, route, Holds, All, written}
 use Rattle.stars.proofs.Tables.{right?, verdict?, verdict, filled}
-use Rattle.stars.proofs.Runs.{reads?, readingOf, reads}
+use Rattle.stars.proofs.Runs.{reads?, readingOf, reads, routed}
 
 -- two answers are the same, by number and values
 abbrev sameList? : List ℕ → List ℕ → Bool
@@ -49,7 +47,10 @@ sameList? (v ∷ vs) [] = false
 sameList? (v ∷ vs) (w ∷ ws) = both (eqb v w) (sameList? vs ws)
 
 abbrev same? : Given → Given → Bool
-same? g h = both (eqb (g .number) (h .number)) (sameList? (g .values) (h .values))
+same? (done vs) (done ws) = sameList? vs ws
+same? (done vs) (refused g) = false
+same? (refused f) (done ws) = false
+same? (refused f) (refused g) = both (eqb (f .number) (g .number)) (eqb (f .place) (g .place))
 
 same-list : (vs ws : List ℕ) → sameList? vs ws ≡ true → vs ≡ ws
 same-list [] [] e = refl
@@ -58,14 +59,32 @@ same-list (v ∷ vs) [] e = absurd (false≢true e)
 same-list (v ∷ vs) (w ∷ ws) e = let (p, q) = both-true (eqb v w) _ e in ap₂ _∷_ (eqb-true v w p) (same-list vs ws q)
 
 same : (g h : Given) → same? g h ≡ true → g ≡ h
-same g h e =
-    let (p, q) = both-true (eqb (g .number) (h .number)) _ e in
-    ap₂ (λ (n : ℕ) (vs : List ℕ). record { number = n; values = vs }) (eqb-true _ _ p) (same-list (g .values) (h .values) q)
+same (done vs) (done ws) e = ap done (same-list vs ws e)
+same (done vs) (refused g) e = absurd (false≢true e)
+same (refused f) (done ws) e = absurd (false≢true e)
+same (refused f) (refused g) e =
+    let (p, q) = both-true (eqb (f .number) (g .number)) _ e in
+    ap₂ (λ (n k : ℕ). refused (record { number = n; place = k })) (eqb-true _ _ p) (eqb-true _ _ q)
+
+-- no test refuses
+abbrev passes? : Tested → Bool
+passes? Passed = true
+passes? (Refused f) = false
+
+passes : (t : Tested) → passes? t ≡ true → t ≡ Passed
+passes Passed e = refl
+passes (Refused f) e = absurd (false≢true e)
 
 -- the first value given
-abbrev first : List ℕ → ℕ
-first [] = 0
-first (v ∷ vs) = v
+abbrev first : Given → ℕ
+first (done []) = 0
+first (done (v ∷ vs)) = v
+first (refused f) = 0
+
+-- 9: there is no way
+abbrev noWay? : Given → Bool
+noWay? (done vs) = false
+noWay? (refused f) = eqb (f .number) 9
 
 -- n is the distance spoken
 abbrev spoken? : ℕ → Length → ℕ → Bool
@@ -92,13 +111,14 @@ spoken size l n e =
     }
 
 -- the check's answer that is given so
-abbrev checkOf : Given → CheckAnswer
-checkOf g = pick (eqb (g .number) 0) checked.Right (checked.Differs (first (g .values)))
+abbrev checkOf : Given → Tested
+checkOf (done vs) = Passed
+checkOf (refused f) = Refused f
 
 -- the floor is accepted, the goal is on it, and the table is right everywhere
 abbrev table? : Map → ℕ → List ℕ → Bool
 table? m goal t =
-    both (eqb (floorRefused m) 0) (both (ltb goal (cells m)) (both (eqb (length t) (cells m)) (allBelow (right? m goal t) (cells m))))
+    both (passes? (floorTested largestSide m)) (both (ltb goal (cells m)) (both (eqb (length t) (cells m)) (allBelow (right? m goal t) (cells m))))
 
 record Table (m : Map) (goal : ℕ) (t : List ℕ) : Type 0 where
   sound : Sound m
@@ -107,65 +127,70 @@ record Table (m : Map) (goal : ℕ) (t : List ℕ) : Type 0 where
 
 table : (m : Map) (goal : ℕ) (t : List ℕ) → table? m goal t ≡ true → Table m goal t
 table m goal t e =
-    let (p, q) = both-true (eqb (floorRefused m) 0) _ e in
+    let (p, q) = both-true (passes? (floorTested largestSide m)) _ e in
     let (r, s) = both-true (ltb goal (cells m)) _ q in
     let (u, v) = both-true (eqb (length t) (cells m)) _ s in
-    let sound = accepted m (eqb-true _ _ p) in
+    let sound = floor-asked largestSide m _ refl (passes _ p) largest-low in
     let on = ltb-true goal (cells m) r in
     record { sound = sound; on = on; is-filled = filled m goal t sound on (eqb-true _ _ u) v }
 
 -- what a case states, computed
 abbrev holds? : Case → Bool
-holds? (compare a b given) = both (eqb (compareRefused a b) 0) (same? (done (pick (shorter a b) 1 0 ∷ [])) given)
-holds? (distance size l given) = both (eqb (distanceRefused size l) 0) (both (same? (done (first (given .values) ∷ [])) given) (spoken? size l (first (given .values))))
-holds? (room m s given) = both (eqb (roomRefused m s) 0) (same? (roomedGives (roomed.Room (roomOf m (s .column) (s .row)))) given)
-holds? (fill m goal t) = both (eqb (tableRefused m goal (cells m)) 0) (table? m (spotCell m goal) t)
+holds? (compare a b given) = both (passes? (firstOf (compareTests a b))) (same? (done (pick (shorter a b) 1 0 ∷ [])) given)
+holds? (distance size l given) =
+    both (passes? (firstOf (distanceTests size l))) (both (same? (done (first given ∷ [])) given) (spoken? size l (first given)))
+holds? (room m s given) = both (passes? (firstOf (roomTests m s))) (same? (roomedGives (roomed.Room (roomOf m (s .column) (s .row)))) given)
+holds? (fill m goal t) = both (passes? (firstOf (goalTests (toGoal m goal) (cells m)))) (table? m (spotCell m goal) t)
 holds? (check m goal t given) =
-    both (eqb (tableRefused m goal (length t)) 0)
-    (both (same? (checkGives (checkOf given)) given) (verdict? (right? m (spotCell m goal) t) (cells m) (checkOf given)))
+    both (passes? (firstOf (goalTests (toGoal m goal) (length t))))
+    (both (same? (gives (checkOf given)) given) (verdict? (right? m (spotCell m goal) t) (cells m) (checkOf given)))
 holds? (find m start goal given legs t) =
-    both (eqb (routeRefused m start goal (cells m)) 0)
+    both (passes? (firstOf (routeTests (route m start goal) (cells m))))
     (both (table? m (spotCell m goal) t)
     (both (ltb (spotCell m start) (cells m))
-    (both (same? (answerGives (readAnswer (readingOf (eqb (given .number) 9) legs))) given) (reads? (leadOf m) t (spotCell m start) (eqb (given .number) 9) legs))))
+    (both (same? (answerGives (readAnswer (readingOf (noWay? given) legs))) given) (reads? (leadOf m) t (spotCell m start) (noWay? given) legs))))
 
 holds : (c : Case) → holds? c ≡ true → Holds c
 holds (compare a b given) e =
-    let (p, q) = both-true (eqb (compareRefused a b) 0) _ e in
-    λ r a. a .does (eqb-true _ _ p) ∙ same _ given q
+    let (p, q) = both-true (passes? (firstOf (compareTests a b))) _ e in
+    λ r a. a .does (passes _ p) ∙ same _ given q
 holds (distance size l given) e =
-    let (p, q) = both-true (eqb (distanceRefused size l) 0) _ e in
-    let (s, u) = both-true (same? (done (first (given .values) ∷ [])) given) _ q in
+    let (p, q) = both-true (passes? (firstOf (distanceTests size l))) _ e in
+    let (s, u) = both-true (same? (done (first given ∷ [])) given) _ q in
     λ r a.
-    let (n, f, v) = a .does (eqb-true _ _ p) in
-    f ∙ ap (λ (k : ℕ). done (k ∷ [])) (spoken-unique size l n (first (given .values)) v (spoken size l (first (given .values)) u)) ∙ same _ given s
+    let (n, f, v) = a .does (passes _ p) in
+    f ∙ ap (λ (k : ℕ). done (k ∷ [])) (spoken-unique size l n (first given) v (spoken size l (first given) u)) ∙ same _ given s
 holds (room m s given) e =
-    let (p, q) = both-true (eqb (roomRefused m s) 0) _ e in
-    λ r a. a .does (eqb-true _ _ p) ∙ same _ given q
+    let (p, q) = both-true (passes? (firstOf (roomTests m s))) _ e in
+    λ r a. a .does (passes _ p) ∙ same _ given q
 holds (fill m goal t) e =
-    let (p, q) = both-true (eqb (tableRefused m goal (cells m)) 0) _ e in
+    let (p, q) = both-true (passes? (firstOf (goalTests (toGoal m goal) (cells m)))) _ e in
     let is = table m (spotCell m goal) t q in
     λ r old new size a.
-    let none : tableRefused m goal (length old) ≡ 0 = ap (tableRefused m goal) size ∙ eqb-true _ _ p in
-    let (f, g) = fills-only m goal old r filling.Filled new t a (answer-done _ none (refl, is .is-filled)) in
-    (ap fillGives f, g)
+    let none = ap (λ (n : ℕ). firstOf (goalTests (toGoal m goal) n)) size ∙ passes _ p in
+    let (f, g) = fills-only (toGoal m goal) old r Passed new t a (work-done _ _ (done []) refl none (refl, is .is-filled)) in
+    (ap gives f, g)
 holds (check m goal t given) e =
-    let (p, q) = both-true (eqb (tableRefused m goal (length t)) 0) _ e in
-    let (s, u) = both-true (same? (checkGives (checkOf given)) given) _ q in
-    λ r a. ap checkGives (checks-only m goal t r (checkOf given) a (answer-done _ (eqb-true _ _ p) (verdict m (spotCell m goal) t (cells m) (checkOf given) u))) ∙ same _ given s
+    let (p, q) = both-true (passes? (firstOf (goalTests (toGoal m goal) (length t)))) _ e in
+    let (s, u) = both-true (same? (gives (checkOf given)) given) _ q in
+    λ r a.
+    let stated = work-done _ _ (gives (checkOf given)) refl (passes _ p) (verdict m (spotCell m goal) t (cells m) (checkOf given) u) in
+    ap gives (checks-only (toGoal m goal) t r (checkOf given) a stated) ∙ same _ given s
 holds (find m start goal given legs t) e =
-    let (p, q) = both-true (eqb (routeRefused m start goal (cells m)) 0) _ e in
+    let (p, q) = both-true (passes? (firstOf (routeTests (route m start goal) (cells m)))) _ e in
     let (s, u) = both-true (table? m (spotCell m goal) t) _ q in
     let (v, w) = both-true (ltb (spotCell m start) (cells m)) _ u in
-    let (x, y) = both-true (same? (answerGives (readAnswer (readingOf (eqb (given .number) 9) legs))) given) _ w in
+    let (x, y) = both-true (same? (answerGives (readAnswer (readingOf (noWay? given) legs))) given) _ w in
     let is = table m (spotCell m goal) t s in
     λ r old new buffer buffer′ size wide a.
-    let none : routeRefused m start goal (length old) ≡ 0 = ap (routeRefused m start goal) size ∙ eqb-true _ _ p in
-    let read = reads m (is .sound) (spotCell m goal) (is .on) t (is .is-filled) (spotCell m start) (ltb-true _ _ v) (eqb (given .number) 9) legs y buffer wide in
-    let (f, g, h) =
-    finds-only m start goal old buffer r (readAnswer (readingOf (eqb (given .number) 9) legs)) new t buffer′ (written legs buffer) a
-    (answer-done _ none (is .is-filled, routed (stepsOf m) (Only (spotCell m goal)) (spotCell m start) buffer (written legs buffer) (readingOf (eqb (given .number) 9) legs) read)) in
-    (ap answerGives f ∙ same _ given x, g, h)
+    let none = ap (λ (n : ℕ). firstOf (routeTests (route m start goal) n)) size ∙ passes _ p in
+    let read =
+    reads m (is .sound) (spotCell m goal) (is .on) t (is .is-filled) (spotCell m start) (ltb-true _ _ v) (noWay? given) legs y buffer wide in
+    let found = routed m (spotCell m goal) (spotCell m start) buffer (written legs buffer) (noWay? given) legs read in
+    let (f, left) =
+    finds-only (route m start goal) old buffer r (readAnswer (readingOf (noWay? given) legs)) new t buffer′ (written legs buffer) a
+    (work-done _ _ (answerGives (readAnswer (readingOf (noWay? given) legs))) refl none (is .is-filled, found)) in
+    (ap answerGives f ∙ same _ given x, left .0, left .1)
 
 abbrev pub all? : List Case → Bool
 all? [] = true

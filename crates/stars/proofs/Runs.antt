@@ -1,5 +1,4 @@
 -- The reader's run over a filled table, computed, and that its legs, cut as a case states them, are the first route's.
--- Assumes nothing.
 use mathlib.Core.Path.{_≡_, refl}
 use mathlib.Core.Bool.{Bool, true, false, not, false≢true}
 use mathlib.Core.List.{List, [], _∷_}
@@ -11,21 +10,25 @@ use Rattle.lengths.specs.declared.Length.{Length}
 use Rattle.lengths.specs.Order.{zeroLength, _⊕_}
 use Rattle.steps.specs.declared.Lead.{Lead}
 use Rattle.steps.specs.declared.Lead.the-variants.{To, Nowhere}
-use Rattle.floor.specs.Floor.{Map, both, cells}
+use Rattle.given.specs.Bools.{both}
+use Rattle.given.proofs.Bools.{both-true}
+use Rattle.floor.specs.Floor.{Map, cells}
 use Rattle.steps.specs.Heading.{weight}
+use Rattle.steps.specs.Ranking.{numbered}
 use Rattle.floor.specs.Inner.{Sound}
 use Rattle.steps.specs.Leading.{leadOf}
 use Rattle.steps.specs.Step.{stepsOf}
 use Rattle.steps.specs.Way.{Only}
-use Rattle.floor.proofs.Joined.{both-true}
 use Rattle.entries.specs.Filled.{Filled}
-use Rattle.walker.specs.Legs.{Leg, Proper, Turns, join}
-use Rattle.walker.specs.Reading.{Run, done, more, next, numbered}
+use Rattle.walker.specs.Legs.{Leg, Proper, OtherFirst, join}
+use Rattle.walker.specs.Walkers.{Run, done, more, next}
 use Rattle.walker.proofs.OnFloor.{first-run}
-use Rattle.walking.specs.declared.Reading.{Reading}
-use Rattle.walking.specs.declared.Reading.the-variants as reading
-use Rattle.walking.specs.Read.{Reads}
+use Rattle.walking.specs.declared.RouteReading.{RouteReading}
+use Rattle.walking.specs.declared.RouteReading.the-variants as reading
+use Rattle.walking.specs.Read.{ReadsRoute}
 use Rattle.walking.proofs.Answering.{reads-no-way}
+use Rattle.route.specs.Answers.{answerGives, Routed, way, no-way}
+use Rattle.route.specs.Inner.{readAnswer}
 use Rattle.stars.specs.Starred.{written}
 
 -- these are the reader's headings from x
@@ -63,7 +66,7 @@ abbrev proper? : List Leg → Bool
 proper? [] = true
 proper? (a ∷ ls) = both (ltb 0 (a .count)) (both (turns? (a .heading) ls) (proper? ls))
 
-turns : (h : ℕ) (ls : List Leg) → turns? h ls ≡ true → Turns h ls
+turns : (h : ℕ) (ls : List Leg) → turns? h ls ≡ true → OtherFirst h ls
 turns h [] e = tt
 turns h (a ∷ ls) e = eqb-false h (a .heading) (not-true (eqb h (a .heading)) e)
 
@@ -80,13 +83,14 @@ reads? lead t x true [] = eqb (getD t x 0) 4294967295
 reads? lead t x true (a ∷ ls) = false
 reads? lead t x false legs = both (not (eqb (getD t x 0) 4294967295)) (both (runs? lead t x (join legs)) (proper? legs))
 
-abbrev pub readingOf : (none : Bool) → List Leg → Reading
+abbrev pub readingOf : (none : Bool) → List Leg → RouteReading
 readingOf true legs = reading.NoWay
 readingOf false legs = reading.Way (record { length = lengthOf (join legs); legs = length legs })
 
-module _ (m : Map) (c : Sound m) (goal : ℕ) (on : goal < cells m) (t : List ℕ) (f : Filled (stepsOf m) (Only goal) (cells m) t) (start : ℕ) (b : start < cells m) where
+module _ (m : Map) (c : Sound m) (goal : ℕ) (on : goal < cells m) (t : List ℕ) (f : Filled (stepsOf m) (Only goal) (cells m) t) (start : ℕ)
+    (b : start < cells m) where
   pub reads : (none : Bool) (legs : List Leg) → reads? (leadOf m) t start none legs ≡ true → (buffer : List ℕ) → 2 * length legs ≤ length buffer
-      → Reads (stepsOf m) (Only goal) (λ h. h) start buffer (readingOf none legs) (written legs buffer)
+      → ReadsRoute (stepsOf m) (Only goal) (λ h. h) start buffer (readingOf none legs) (written legs buffer)
   reads true [] e buffer h = reads-no-way m c goal on t f numbered start b buffer (eqb-true _ _ e)
   reads true (a ∷ ls) e buffer h = absurd (false≢true e)
   reads false legs e buffer h =
@@ -103,3 +107,10 @@ module _ (m : Map) (c : Sound m) (goal : ℕ) (on : goal < cells m) (t : List �
         room = h;
         written = refl;
       }
+
+-- what reading answers is what the call gives
+pub routed : (m : Map) (goal start : ℕ) (old new : List ℕ) (none : Bool) (legs : List Leg)
+    → ReadsRoute (stepsOf m) (Only goal) (λ h. h) start old (readingOf none legs) new
+    → Routed (stepsOf m) (Only goal) start old (answerGives (readAnswer (readingOf none legs))) new
+routed m goal start old new true legs p = no-way p refl
+routed m goal start old new false legs p = way _ p refl

@@ -1,24 +1,22 @@
--- The starred cases of document 01, "Floors to try": one list, and what is said of each. A case holds if every answer, and all that is left in
--- table and leg buffer, that meets the promise of the entry point at these inputs is what the case states.
--- Assumes nothing.
+-- The starred cases of document 01, "Floors to try": one list, and what is said of each. A case holds if every answer,
+-- and all that is left in table and leg buffer, that meets the promise of the entry point at these inputs is what the
+-- case states.
 use mathlib.Core.Path.{_≡_}
 use mathlib.Core.List.{List, [], _∷_, _++_}
 use Prim.Native.Nat.{ℕ, _*_, _≤_}
 use lib.ListN.{length, drop}
-use Rattle.given.specs.Given.{Given, refusal, done}
+use Rattle.given.specs.declared.Tested.{Tested}
+use Rattle.given.specs.Refusing.{Given, done, refused, bare, gives}
 use Rattle.lengths.specs.declared.Length.{Length}
 use Rattle.lengths.specs.declared.Compared.{Compared}
 use Rattle.lengths.specs.declared.Distance.{Distance}
 use Rattle.lengths.specs.Answers.{comparedGives, Compares, distanceGives, Speaks}
 use Rattle.rooms.specs.declared.Roomed.{Roomed}
-use Rattle.floor.specs.Floor.{Map, mapOf, cells}
-use Rattle.floor.specs.Refusals.{Spot}
-use Rattle.floor.specs.Calls.{spotOf}
+use Rattle.floor.specs.Floor.{Map, Spot, mapOf, spotOf, cells}
+use Rattle.calls.specs.Calls.{ToGoal, Route}
 use Rattle.rooms.specs.Answers.{roomedGives, Rooms}
 use Rattle.entries.specs.Entry.{mark, long, pack}
-use Rattle.table.specs.declared.FillAnswer.{FillAnswer}
-use Rattle.table.specs.declared.CheckAnswer.{CheckAnswer}
-use Rattle.table.specs.Answers.{fillGives, Fills, checkGives, Checks}
+use Rattle.table.specs.Answers.{Fills, Checks}
 use Rattle.walker.specs.Legs.{Leg, bytes}
 use Rattle.route.specs.declared.Answer.{Answer}
 use Rattle.route.specs.Answers.{answerGives, Finds}
@@ -36,17 +34,24 @@ pub data Case : Type 0 where
 abbrev pub written : List Leg → List ℕ → List ℕ
 written legs buffer = bytes legs ++ drop (2 * length legs) buffer
 
+-- what a call to a goal, and a call for a route, are asked
+abbrev pub toGoal : Map → (goal : Spot) → ToGoal
+toGoal m goal = record { map = m; goal = goal }
+
+abbrev pub route : Map → (start goal : Spot) → Route
+route m start goal = record { map = m; start = start; goal = goal }
+
 -- a table of the right size, whatever it held, and any leg buffer with room for the legs are lent
 abbrev pub Holds : Case → Type 0
-Holds (compare a b given) = (r : Compared) → Compares a b (comparedGives r) → comparedGives r ≡ given
-Holds (distance size l given) = (r : Distance) → Speaks size l (distanceGives r) → distanceGives r ≡ given
-Holds (room m s given) = (r : Roomed) → Rooms m (s .column) (s .row) (roomedGives r) → roomedGives r ≡ given
+Holds (compare a b given) = (r : Compared) → Compares a b r → comparedGives r ≡ given
+Holds (distance size l given) = (r : Distance) → Speaks size l r → distanceGives r ≡ given
+Holds (room m s given) = (r : Roomed) → Rooms m s r → roomedGives r ≡ given
 Holds (fill m goal table) =
-    (r : FillAnswer) (old new : List ℕ) → length old ≡ cells m → Fills m goal old r new → (fillGives r ≡ done []) × (new ≡ table)
-Holds (check m goal table given) = (r : CheckAnswer) → Checks m goal table r → checkGives r ≡ given
+    (r : Tested) (old new : List ℕ) → length old ≡ cells m → Fills (toGoal m goal) old r new → (gives r ≡ done []) × (new ≡ table)
+Holds (check m goal table given) = (r : Tested) → Checks (toGoal m goal) table r → gives r ≡ given
 Holds (find m start goal given legs table) =
     (r : Answer) (old new buffer buffer′ : List ℕ) → length old ≡ cells m → 2 * length legs ≤ length buffer
-    → Finds m start goal old buffer r new buffer′ → (answerGives r ≡ given) × (new ≡ table) × (buffer′ ≡ written legs buffer)
+    → Finds (route m start goal) old buffer r new buffer′ → (answerGives r ≡ given) × (new ≡ table) × (buffer′ ≡ written legs buffer)
 
 abbrev pub All : List Case → Type 0
 All [] = Unit {0}
@@ -62,15 +67,20 @@ entry straight diagonal = pack (long (pair straight diagonal))
 abbrev pub leg : ℕ → ℕ → Leg
 leg heading count = record { heading = heading; count = count }
 
+-- a refusal with nothing but its number
+abbrev pub refusal : ℕ → Given
+refusal n = refused (bare n)
+
 -- 11 with the first cell that differs
 abbrev pub differing : ℕ → Given
-differing cell = record { number = 11; values = cell ∷ [] }
+differing cell = refused (record { number = 11; place = cell })
 
 -- floor A is 5 wide, 3 high, bytes 0, 4, 0
 abbrev pub floorA : Map
 floorA = mapOf 5 3 (0 ∷ 4 ∷ 0 ∷ [])
 
--- A, table for (4,1), but for cell 6: rows 0 and 2 each (3,1) (2,1) (1,1) (0,1) (1,0); row 1 (2,2), cell 6, mark (1,0) (0,0)
+-- A, table for (4,1), but for cell 6: rows 0 and 2 each (3,1) (2,1) (1,1) (0,1) (1,0); row 1 (2,2), cell 6, mark
+-- (1,0) (0,0)
 abbrev pub tableWith : ℕ → List ℕ
 tableWith cell6 =
     entry 3 1 ∷ entry 2 1 ∷ entry 1 1 ∷ entry 0 1 ∷ entry 1 0

@@ -1,5 +1,4 @@
 -- A shortest way over n cells has at most n − 1 steps.
--- Assumes nothing.
 use mathlib.Core.Path.{_≡_, ap, sym, subst₂, _∙_}
 use mathlib.Core.Logic.{_⊎_, inl, inr}
 use Prim.Native.Nat.{ℕ, suc, _≤_, _<_}
@@ -22,7 +21,8 @@ module _ (G : Graph) (Goal : ℕ → Type 0) (n : ℕ)
 
   chain : {x g : ℕ} {l : Length} → Goal g → Way G x g l → Shortest G Goal x l → (j : ℕ) → j ≤ steps l → (i : ℕ) × (i < n) × Far i j
   chain {x} gg stay short j h = (x, goal-inside x gg, (zeroLength, short, omega arith))
-  chain {x} {g} gg (step {h = d} {y = y} {l = l} s w) short j h = by (ℕ-discrete j (steps (l ⊕ G .weight d))) (λ k. chain gg w (tail-shortest G gg s w short) j k)
+  chain {x} {g} gg (step {h = d} {y = y} {l = l} s w) short j h = by (ℕ-discrete j (steps (l ⊕ G .weight d)))
+      (λ k. chain gg w (tail-shortest G gg s w short) j k)
     where
       by : Dec (j ≡ steps (l ⊕ G .weight d)) → (j ≤ steps l → (i : ℕ) × (i < n) × Far i j) → (i : ℕ) × (i < n) × Far i j
       by (yes e) ih = (x, inside d x y s, (l ⊕ G .weight d, short, sym e))

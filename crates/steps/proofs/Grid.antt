@@ -1,4 +1,5 @@
--- The floor's steps, one statement for all headings: the two ends, and the two cells that share a side with both, are open.
+-- The floor's steps, one statement for all headings: the two ends, and the two cells that share a side with both, are
+-- open.
 use mathlib.Core.Path.{_≡_, ap, ap₂, sym, _∙_}
 use Prim.Native.Nat.{ℕ, _+_, _*_, _%_, _/_, _<_}
 use native.Mathlib.Omega.{arith}

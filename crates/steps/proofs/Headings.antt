@@ -1,6 +1,6 @@
--- The one table of headings: it is document 01's with one added to each change. What holds of the changes of all eight headings is
--- computed over the whole table once: how large they are (`changes-of`), that the opposite heading undoes them, and that a diagonal heading
--- has those of the two straight ones beside it (`corner-of`).
+-- The one table of headings: it is document 01's with one added to each change. What holds of the changes of all eight
+-- headings is computed over the whole table once: how large they are (`changes-of`), that the opposite heading undoes
+-- them, and that a diagonal heading has those of the two straight ones beside it (`corner-of`).
 use mathlib.Core.Path.{_≡_, refl, sym, subst}
 use mathlib.Core.Logic.{_≢_, _⊎_, inl, inr}
 use mathlib.Core.Bool.{Bool, true, false}
@@ -12,11 +12,10 @@ use borrow.Author.Tests.{leb-true, eqb-true}
 use lib.Dec.{leb, eqb}
 use lib.IntN.{ℤ, pos, negsuc, _+ℤ_}
 use Rattle.steps.specs.declared.Change.{Change}
-use Rattle.given.specs.Given.{pick}
-use Rattle.floor.specs.Floor.{both}
+use Rattle.given.specs.Bools.{both, pick}
 use Rattle.steps.specs.Heading.{changes, changeOf}
 use Rattle.floor.proofs.Entries.{every, entry}
-use Rattle.floor.proofs.Joined.{both-true}
+use Rattle.given.proofs.Bools.{both-true}
 
 -- document 01's table: column and row change of N, NE, E, SE, S, SW, W, NW
 pub record Signed : Type 0 where
@@ -56,7 +55,8 @@ opposite h = (h + 4) % 8
 abbrev pub away : ℕ → ℕ
 away k = (k - 1) + (1 - k)
 
--- what the changes of a heading are: each is at most one, a straight heading has one and a diagonal one two, and the opposite heading undoes them
+-- what the changes of a heading are: each is at most one, a straight heading has one and a diagonal one two, and the
+-- opposite heading undoes them
 pub record Changes (h : ℕ) : Type 0 where
   pub narrow : changeOf h .column ≤ 2
   pub flat : changeOf h .row ≤ 2
@@ -155,15 +155,15 @@ corner-of h b odd = by (sides (h - 1) ((h + 1) % 8) (changeOf h)) refl (rw odd a
     by false p q = corner h ((h + 1) % 8) (h - 1) (omega arith) (omega arith) (omega arith) (omega arith) (inr (refl, refl)) q
 
 -- a straight heading keeps the row or the column, and a diagonal one has its two straight ones
-pub data Shape (h : ℕ) : Type 0 where
-  level : h % 2 ≡ 0 → changeOf h .row ≡ 1 → Shape h
-  upright : h % 2 ≡ 0 → changeOf h .column ≡ 1 → Shape h
-  slanted : h % 2 ≡ 1 → Corner h → Shape h
+pub data Slope (h : ℕ) : Type 0 where
+  level : h % 2 ≡ 0 → changeOf h .row ≡ 1 → Slope h
+  upright : h % 2 ≡ 0 → changeOf h .column ≡ 1 → Slope h
+  slanted : h % 2 ≡ 1 → Corner h → Slope h
 
-pub shape : (h : ℕ) → h < 8 → Shape h
-shape h b = by (ℕ-discrete (h % 2) 0) (ℕ-discrete (changeOf h .row) 1)
+pub slope : (h : ℕ) → h < 8 → Slope h
+slope h b = by (ℕ-discrete (h % 2) 0) (ℕ-discrete (changeOf h .row) 1)
   where
-    by : Dec (h % 2 ≡ 0) → Dec (changeOf h .row ≡ 1) → Shape h
+    by : Dec (h % 2 ≡ 0) → Dec (changeOf h .row ≡ 1) → Slope h
     by (yes e) (yes r) = level e r
     by (yes e) (no r) = upright e (omega (arith, changes-of h b))
     by (no e) r = let odd : h % 2 ≡ 1 = omega arith in slanted odd (corner-of h b odd)

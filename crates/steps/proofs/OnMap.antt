@@ -1,5 +1,5 @@
--- The general laws at an accepted floor: steps can be walked back, a heading leads to one cell, and each part of a shortest length is at most 16,383.
--- Assumes nothing.
+-- The general laws at an accepted floor: steps can be walked back, a heading leads to one cell, and each part of a
+-- shortest length is at most 16,383.
 use Prim.Native.Nat.{ℕ, _≤_, _<_}
 use native.Mathlib.Nat.{mul-le-mul}
 use native.Mathlib.Omega.{arith}
@@ -23,7 +23,8 @@ walked-back m = back (floor m)
 pub on-floor : (m : Map) (h x y : ℕ) → stepsOf m .Step h x y → x < cells m
 on-floor m = inside (floor m)
 
-pub small-shortest : (m : Map) → Sound m → (Goal : ℕ → Type 0) → ((x : ℕ) → Goal x → x < cells m) → (x : ℕ) (l : Length) → Shortest (stepsOf m) Goal x l → Within l
+pub small-shortest : (m : Map) → Sound m → (Goal : ℕ → Type 0) → ((x : ℕ) → Goal x → x < cells m) → (x : ℕ) (l : Length) → Shortest (stepsOf m) Goal x l
+    → Within l
 small-shortest m s Goal goal-inside x l short =
     let b = bound (stepsOf m) Goal (cells m) (on-floor m) goal-inside x l short in
     let n = few-cells m s in

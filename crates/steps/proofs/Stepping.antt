@@ -1,5 +1,5 @@
--- Permitted steps: what an open cell counted from one further shows, where a permitted step ends, and where a heading leads by it.
--- Assumes nothing.
+-- Permitted steps: what an open cell counted from one further shows, where a permitted step ends, and where a heading
+-- leads by it.
 use mathlib.Core.Path.{_≡_, sym, _∙_, subst}
 use mathlib.Core.Bool.{Bool, true, false}
 use Prim.Native.Nat.{ℕ, _+_, _-_, _*_, _/_, _%_, _≤_, _<_}
@@ -19,13 +19,13 @@ pub place : (m : Map) → Sound m → (x : ℕ) → x < cells m → (x % m .widt
 place m sound x h = (mod-lt x (sound .some-wide), div-lt-iff-lt-mul (sound .some-wide) .1 h)
 
 -- a permitted step ends at an open cell, which lies on the floor
-pub record Ends (m : Map) (column row : ℕ) : Type 0 where
+pub record StepEnds (m : Map) (column row : ℕ) : Type 0 where
   pub some-column : 1 ≤ column
   pub some-row : 1 ≤ row
   pub column-on : column ≤ m .width
   pub row-on : row ≤ m .height
 
-step-end : (m : Map) (across down column row : ℕ) → permitted m across down column row ≡ true → Ends m (column + across) (row + down)
+step-end : (m : Map) (across down column row : ℕ) → permitted m across down column row ≡ true → StepEnds m (column + across) (row + down)
 step-end m across down column row e =
     let p = four m across down column row (subst T (sym e) tt) .to in
     let c = open-column m _ _ (p .«open») in
@@ -42,5 +42,5 @@ module _ (m : Map) (h x : ℕ) (d : Change) (is : d ≡ changeOf h) (t : Bool) (
   unfolding leadOf
   leads-to e = rw (← is, ← may, e)
 
-  pub leads-end : t ≡ true → Ends m (x % m .width + d .column) (x / m .width + d .row)
+  pub leads-end : t ≡ true → StepEnds m (x % m .width + d .column) (x / m .width + d .row)
   leads-end e = step-end m (d .column) (d .row) (x % m .width) (x / m .width) (sym may ∙ e)

@@ -1,10 +1,9 @@
 -- Where a heading leads from a cell, as the code reads it.
--- Assumes nothing.
 use mathlib.Core.Bool.{Bool}
 use Prim.Native.Nat.{ℕ, _+_, _-_, _%_, _/_}
 use lib.Dec.{ltb}
-use Rattle.given.specs.Given.{pick}
-use Rattle.floor.specs.Floor.{Map, both, open?, cellOf}
+use Rattle.given.specs.Bools.{pick, both}
+use Rattle.floor.specs.Floor.{Map, open?, cellOf}
 use Rattle.steps.specs.declared.Lead.{Lead}
 use Rattle.steps.specs.declared.Lead.the-variants as lead
 use Rattle.steps.specs.Heading.{changeOf}

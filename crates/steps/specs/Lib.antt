@@ -1,4 +1,5 @@
 pub mod Heading
+pub mod Ranking
 pub mod Way
 pub mod Step
 pub mod Leading

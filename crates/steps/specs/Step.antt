@@ -1,5 +1,4 @@
 -- Document 01, "Floor": a step, in one statement for all eight headings.
--- Assumes nothing.
 use mathlib.Core.Path.{_≡_, refl}
 use Prim.Native.Nat.{ℕ, zero, suc, _+_, _%_, _/_, _<_}
 use Rattle.lengths.specs.Order.{steps}
@@ -11,8 +10,8 @@ use Rattle.steps.specs.Way.{Graph}
 pub record Moved (k a b : ℕ) : Type 0 where
   pub sum : a + k ≡ b + 1
 
--- a step goes from an open cell to an open cell on the floor. A diagonal step also needs open the two cells that share a side with both
--- its ends; of a straight step these two are the ends
+-- a step goes from an open cell to an open cell on the floor. A diagonal step also needs open the two cells that share
+-- a side with both its ends; of a straight step these two are the ends
 pub record Step (Open : ℕ → ℕ → Type 0) (h c r c′ r′ : ℕ) : Type 0 where
   pub heading : h < 8
   pub column : Moved (changeOf h .column) c c′
@@ -26,7 +25,8 @@ pub one-step : (n : ℕ) → steps (byParity n) ≡ 1
 one-step zero = refl
 one-step (suc n) = refl
 
--- the steps of a floor of this width, whose open cells are given; a cell's column and row are its number's remainder and quotient by the width
+-- the steps of a floor of this width, whose open cells are given; a cell's column and row are its number's remainder
+-- and quotient by the width
 abbrev pub gridSteps : ℕ → (ℕ → ℕ → Type 0) → Graph
 gridSteps width Open = record {
   Step = λ h x y. Step Open h (x % width) (x / width) (y % width) (y / width);

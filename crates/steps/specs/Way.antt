@@ -1,11 +1,12 @@
--- Document 01, "Floor" and "Table": ways over any set of permitted steps, and the shortest length to any set of goal cells.
--- Assumes nothing.
+-- Document 01, "Floor" and "Table": ways over any set of permitted steps, and the shortest length to any set of goal
+-- cells.
 use mathlib.Core.Path.{_≡_}
 use Prim.Native.Nat.{ℕ}
 use Rattle.lengths.specs.declared.Length.{Length}
 use Rattle.lengths.specs.Order.{zeroLength, _⊕_, steps, _⊑_}
 
--- a set of permitted steps: Step h x y says that heading h leads from cell x to cell y; each is one straight or one diagonal step
+-- a set of permitted steps: Step h x y says that heading h leads from cell x to cell y; each is one straight or one
+-- diagonal step
 pub record Graph : Type 1 where
   pub Step : ℕ → ℕ → ℕ → Type 0
   pub weight : ℕ → Length

@@ -49,7 +49,7 @@ fn open_past(width: usize, height: usize, map: &[u8], column: usize, row: usize)
     if row < 1 {
         return false;
     }
-    floor::tests::open_at(width, height, map, column - 1, row - 1)
+    floor::cells::open_at(width, height, map, column - 1, row - 1)
 }
 
 // Whether the step from (column, row) by the changes is permitted: both ends and the two cells beside are open.

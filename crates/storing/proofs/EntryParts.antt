@@ -7,18 +7,19 @@ use native.Mathlib.Omega.{arith}
 use native.Mathlib.Nat.{add-mul, mul-le-mul, mul-le-mul-right, mod-eq-of-lt, mul-add-mod-self-right}
 use lib.Arith.{digits-div, digits-mod}
 use Rattle.lengths.specs.declared.Length.{Length}
-use Rattle.lengths.proofs.Keys.{straightKey, diagonalKey, key, straightOf, diagonalOf, pair-back}
+use Rattle.lengths.specs.Keys.{straightKey, diagonalKey, key, straightOf, diagonalOf}
+use Rattle.lengths.proofs.Keys.{pair-back}
 use Rattle.entries.specs.Entry.{mark, pack}
 use Rattle.entries.specs.Written.{Written}
 use Rattle.entries.proofs.Writing.{written-as, written-on}
 use Rattle.offers.specs.Work.{unreached, span, raise, atGoal}
 use Rattle.storing.specs.Entries.{keyOf, goalKey, entryOf, InWave, Keyed, Settled, entryIn, entryOfCell}
-use Rattle.storing.proofs.NumberKinds.{Kind, shut, waits, reached, kind}
+use Rattle.storing.proofs.NumberKinds.{NumberKind, shut, waits, reached, kind}
 
 pub packed-shut : (v : ℕ) → v ≡ 0 → pack mark ≡ pack (entryOf v)
 packed-shut v e = by (kind v)
   where
-    by : Kind v → pack mark ≡ pack (entryOf v)
+    by : NumberKind v → pack mark ≡ pack (entryOf v)
     by (shut d p) = ap pack (sym p)
     by (waits d p) = ap pack (sym p)
     by (reached o f p) = absurd (omega arith)
@@ -26,7 +27,7 @@ packed-shut v e = by (kind v)
 pub packed-waits : (v : ℕ) → unreached ≤ v → pack mark ≡ pack (entryOf v)
 packed-waits v e = by (kind v)
   where
-    by : Kind v → pack mark ≡ pack (entryOf v)
+    by : NumberKind v → pack mark ≡ pack (entryOf v)
     by (shut d p) = ap pack (sym p)
     by (waits d p) = ap pack (sym p)
     by (reached o f p) = absurd (omega arith)
@@ -35,12 +36,13 @@ pub packed-length : (v : ℕ) → v ≢ 0 → v < unreached
     → straightOf (keyOf v - goalKey) * 65536 + diagonalOf (keyOf v - goalKey) ≡ pack (entryOf v)
 packed-length v e f = by (kind v)
   where
-    by : Kind v → straightOf (keyOf v - goalKey) * 65536 + diagonalOf (keyOf v - goalKey) ≡ pack (entryOf v)
+    by : NumberKind v → straightOf (keyOf v - goalKey) * 65536 + diagonalOf (keyOf v - goalKey) ≡ pack (entryOf v)
     by (shut d p) = absurd (e d)
     by (waits d p) = absurd (omega arith)
     by (reached o g p) = ap pack (sym p)
 
--- how the code divides 5741 times a remainder by 13860: nearly by a product, and m is how often 13860 goes into what is left
+-- how the code divides 5741 times a remainder by 13860: nearly by a product, and m is how often 13860 goes into what is
+-- left
 abbrev near : ℕ → ℕ
 near r = r * 27145 / 65536
 

@@ -5,7 +5,7 @@ use Prim.Native.Nat.{ℕ, suc, _+_, _-_, _*_, _/_, _%_, _≤_, _<_}
 use native.Mathlib.Decide.{decLe, ℕ-discrete}
 use lib.ListN.{length}
 use Rattle.lengths.specs.declared.Length.{Length}
-use Rattle.lengths.proofs.Keys.{straightKey, key, pair}
+use Rattle.lengths.specs.Keys.{straightKey, key, pair}
 use Rattle.entries.specs.Entry.{Entry, mark, long, pack}
 use Rattle.offers.specs.Work.{unreached, stride, span, raise, highest, at, spot}
 

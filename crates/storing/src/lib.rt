@@ -2,22 +2,20 @@
 ghost use mathlib.Core.Path.{_≡_};
 ghost use Prim.Native.Nat.{_*_, _/_, _<_};
 ghost use lib.ListN.{length};
-ghost use Rattle.lengths.proofs.Keys.{straightKey};
+ghost use Rattle.lengths.specs.Keys.{straightKey};
 ghost use Rattle.entries.specs.Entry.{pack};
 ghost use Rattle.entries.specs.Written.{Written};
 ghost use Rattle.storing.specs.Entries.{entryOf, Settled, AllSettled, entryIn, entryOfCell};
 use entries::MARK;
+use lengths::DIAGONAL_KEY;
+use lengths::STRAIGHT_KEY;
 use offers::GOAL;
-use offers::STRAIGHT;
+use offers::STEP_STRAIGHT;
 use offers::STRIDE;
 use offers::UNREACHED;
 
-// What a straight and a diagonal step weigh in a key. So 13860 diagonal steps weigh what 19601 straight ones do.
-const STRAIGHT_KEY: u32 = 13860;
-
-const DIAGONAL_KEY: u32 = 19601;
-
-// A remainder of one is 5741 diagonal steps, and 8119 straight ones fewer: 5741 * 19601 = 8119 * 13860 + 1.
+// In a key 13860 diagonal steps weigh what 19601 straight ones do. A remainder of one is 5741 diagonal steps, and 8119
+// straight ones fewer: 5741 * 19601 = 8119 * 13860 + 1.
 const MORE: u32 = 5741;
 
 const FEWER: u32 = 8119;
@@ -30,9 +28,9 @@ fn whole_of(number: u32) -> u32
     if number < STRAIGHT_KEY { 0 } else { 1 }
 }
 
-// The table's entry for a number, by how far it is above the goal's: the remainder's diagonal steps are 5741 * rest, of which each 13860 are
-// straight ones. How often 13860 goes into them is found nearly by a product, and then by one comparison, without a division, so that many
-// entries are made at once.
+// The table's entry for a number, by how far it is above the goal's: the remainder's diagonal steps are 5741 * rest, of
+// which each 13860 are straight ones. How often 13860 goes into them is found nearly by a product, and then by one
+// comparison, without a division, so that many entries are made at once.
 fn entry_of(number: u32) -> u32
     requires { ⌜ Settled number ⌝ }
     ensures { λ r. ⌜ r ≡ pack (entryOf number) ⌝ }
@@ -44,12 +42,12 @@ fn entry_of(number: u32) -> u32
         return MARK;
     }
     let above = number - GOAL;
-    let rest = above % STRAIGHT;
+    let rest = above % STEP_STRAIGHT;
     let near = rest * 27145 / 65536;
     let left = rest * MORE - near * STRAIGHT_KEY;
     let more = whole_of(left);
     let diagonal = left - more * STRAIGHT_KEY;
-    let straight = above / STRAIGHT + DIAGONAL_KEY * (near + more) - FEWER * rest;
+    let straight = above / STEP_STRAIGHT + DIAGONAL_KEY * (near + more) - FEWER * rest;
     straight * 65536 + diagonal
 }
 

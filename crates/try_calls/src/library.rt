@@ -2,13 +2,13 @@
 use crate::OURS;
 use crate::ROOM;
 use floor::Accepted;
+use given::Refusal;
+use given::Tested;
 use lengths::Compared;
 use lengths::Distance;
 use lengths::Length;
 use rooms::Roomed;
 use route::Answer;
-use table::CheckAnswer;
-use table::FillAnswer;
 use try_solver::ask;
 use try_solver::ask::Call;
 use try_solver::ask::Said;
@@ -18,16 +18,24 @@ use try_solver::grid::WORDS;
 ghost use Prim.Native.Nat.{_+_, _≤_, _<_};
 ghost use lib.ListN.{length};
 
-// A refusal that has no place.
-fn refused(number: u8) -> Said {
-    ask::refused(number as usize, 0)
+// A refusal, with its place.
+fn refused(refusal: Refusal) -> Said {
+    ask::refused(refusal.number as usize, refusal.place)
+}
+
+// The answer of a call without values.
+fn of_tested(tested: Tested) -> Said {
+    match tested {
+        Tested::Passed => ask::gives(0, 0, 0, 0),
+        Tested::Refused(refusal) => refused(refusal),
+    }
 }
 
 // Accepting a floor.
 fn accept(call: Call, map: &[u8]) -> Said {
     match floor::accept(call.width, call.height, map) {
         Accepted::Floor(sides) => ask::gives(sides.width, sides.height, 0, 0),
-        Accepted::Refused(number) => refused(number),
+        Accepted::Refused(refusal) => refused(refusal),
     }
 }
 
@@ -41,7 +49,7 @@ fn room(call: Call, map: &[u8]) -> Said {
         call.from_row,
     ) {
         Roomed::Room(room) => ask::gives(room.left, room.top, room.right, room.bottom),
-        Roomed::Refused(number) => refused(number),
+        Roomed::Refused(refusal) => refused(refusal),
     }
 }
 
@@ -58,7 +66,7 @@ fn compare(call: Call) -> Said {
     match lengths::compare(one, other) {
         Compared::Shorter => ask::gives(1, 0, 0, 0),
         Compared::NotShorter => ask::gives(0, 0, 0, 0),
-        Compared::Refused(number) => refused(number),
+        Compared::Refused(refusal) => refused(refusal),
     }
 }
 
@@ -70,25 +78,18 @@ fn distance(call: Call) -> Said {
     };
     match lengths::distance_spoken(call.size, length) {
         Distance::Centimetres(n) => ask::gives(n as usize, 0, 0, 0),
-        Distance::Refused(number) => refused(number),
+        Distance::Refused(refusal) => refused(refusal),
     }
 }
 
 // Filling a table.
 fn fill(call: Call, map: &[u8], table: &mut [u32]) -> Said {
-    match table::fill(call.width, call.height, map, call.column, call.row, table) {
-        FillAnswer::Filled => ask::gives(0, 0, 0, 0),
-        FillAnswer::Refused(number) => refused(number),
-    }
+    of_tested(table::fill(call.width, call.height, map, call.column, call.row, table))
 }
 
 // Checking a table.
 fn check(call: Call, map: &[u8], table: &[u32]) -> Said {
-    match table::check(call.width, call.height, map, call.column, call.row, table) {
-        CheckAnswer::Right => ask::gives(0, 0, 0, 0),
-        CheckAnswer::Differs(cell) => ask::refused(11, cell),
-        CheckAnswer::Refused(number) => refused(number),
-    }
+    of_tested(table::check(call.width, call.height, map, call.column, call.row, table))
 }
 
 // A route's answer: its length and leg count, or the refusal with its place.
@@ -103,7 +104,7 @@ fn of_route(answer: Answer) -> Said {
                 0,
             )
         }
-        Answer::Refused(refusal) => ask::refused(refusal.number as usize, refusal.place),
+        Answer::Refused(refusal) => refused(refusal),
     }
 }
 

@@ -1,7 +1,7 @@
--- The first route: there is one at most, and it is the walk that always takes the lowest heading on a shortest way. Two walks from one cell are
--- comparable in dictionary order, as a heading leads to one cell; so two first routes are the same. A shortest walk that came before the greedy one would, where
--- they part, take a lower heading that lies on a shortest way; and a first route that did not take the lowest one would have such a walk before it.
--- Assumes nothing.
+-- The first route: there is one at most, and it is the walk that always takes the lowest heading on a shortest way. Two
+-- walks from one cell are comparable in dictionary order, as a heading leads to one cell; so two first routes are the
+-- same. A shortest walk that came before the greedy one would, where they part, take a lower heading that lies on a
+-- shortest way; and a first route that did not take the lowest one would have such a walk before it.
 use mathlib.Core.Path.{_≡_, refl, ap, ap₂, sym, subst}
 use mathlib.Core.Logic.{_⊎_, inl, inr}
 use mathlib.Core.List.{List, [], _∷_}
@@ -29,10 +29,10 @@ module _ (G : Graph) (Goal : ℕ → Type 0) (rank : ℕ → ℕ)
     (one-way : (h x y z : ℕ) → G .Step h x y → G .Step h x z → y ≡ z)
     (apart : (h k x y z : ℕ) → G .Step h x y → G .Step k x z → rank h ≡ rank k → h ≡ k) where
   -- two walks from one cell: one is before the other, or they are the same
-  abbrev Compared : List ℕ → List ℕ → Type 0
-  Compared hs ks = Before rank hs ks ⊎ ((hs ≡ ks) ⊎ Before rank ks hs)
+  abbrev EitherFirst : List ℕ → List ℕ → Type 0
+  EitherFirst hs ks = Before rank hs ks ⊎ ((hs ≡ ks) ⊎ Before rank ks hs)
 
-  compared : {x y z : ℕ} {hs ks : List ℕ} {l m : Length} → Walk G x y hs l → Walk G x z ks m → Compared hs ks
+  compared : {x y z : ℕ} {hs ks : List ℕ} {l m : Length} → Walk G x y hs l → Walk G x z ks m → EitherFirst hs ks
   compared walk.stay walk.stay = inr (inl refl)
   compared walk.stay (walk.step s w) = inl walk.shorter
   compared (walk.step s w) walk.stay = inr (inr walk.shorter)
@@ -42,12 +42,12 @@ module _ (G : Graph) (Goal : ℕ → Type 0) (rank : ℕ → ℕ)
       same-end : h ≡ k → v ≡ y
       same-end e = one-way h x v y (subst (λ (j : ℕ). G .Step j x v) (sym e) t) s
 
-      on : h ≡ k → Compared hs ks → Compared (h ∷ hs) (k ∷ ks)
+      on : h ≡ k → EitherFirst hs ks → EitherFirst (h ∷ hs) (k ∷ ks)
       on e (inl b) = inl (subst (λ (j : ℕ). Before rank (h ∷ hs) (j ∷ ks)) e (walk.same b))
       on e (inr (inl p)) = inr (inl (ap₂ _∷_ e p))
       on e (inr (inr b)) = inr (inr (subst (λ (j : ℕ). Before rank (j ∷ ks) (h ∷ hs)) e (walk.same b)))
 
-      by : Dec (rank h < rank k) → Dec (rank k < rank h) → (h ≡ k → Compared hs ks) → Compared (h ∷ hs) (k ∷ ks)
+      by : Dec (rank h < rank k) → Dec (rank k < rank h) → (h ≡ k → EitherFirst hs ks) → EitherFirst (h ∷ hs) (k ∷ ks)
       by (yes p) q c = inl (walk.lower p)
       by (no p) (yes q) c = inr (inr (walk.lower q))
       by (no p) (no q) c = let e = apart h k x y v s t (omega arith) in on e (c e)
@@ -56,7 +56,7 @@ module _ (G : Graph) (Goal : ℕ → Type 0) (rank : ℕ → ℕ)
   pub first-unique : {x : ℕ} {hs ks : List ℕ} {l m : Length} → FirstRoute G Goal rank x hs l → FirstRoute G Goal rank x ks m → hs ≡ ks
   first-unique {hs = hs} {ks} {l} {m} a b = by (compared (a .route .walk) (b .route .walk))
     where
-      by : Compared hs ks → hs ≡ ks
+      by : EitherFirst hs ks → hs ≡ ks
       by (inl p) = absurd (b .first hs l (a .route) p)
       by (inr (inl p)) = p
       by (inr (inr p)) = absurd (a .first ks m (b .route) p)
@@ -96,7 +96,8 @@ one-before {G} {Goal} {h} {x} o r = record {
 }
 
 -- and the first route is the greedy walk
-pub first-follows : (G : Graph) (Goal : ℕ → Type 0) (rank : ℕ → ℕ) {x : ℕ} {hs : List ℕ} {l : Length} → FirstRoute G Goal rank x hs l → Follows G Goal rank x hs l
+pub first-follows : (G : Graph) (Goal : ℕ → Type 0) (rank : ℕ → ℕ) {x : ℕ} {hs : List ℕ} {l : Length} → FirstRoute G Goal rank x hs l
+    → Follows G Goal rank x hs l
 first-follows G Goal rank f = by (f .route .goal) (f .route .walk) (f .route .short) (f .first)
   where
     by : {x g : ℕ} {hs : List ℕ} {l : Length} → Goal g → Walk G x g hs l → Shortest G Goal x l
@@ -115,7 +116,8 @@ first-follows G Goal rank f = by (f .route .goal) (f .route .walk) (f .route .sh
         (by gg w (on .there) (λ ks m r b. first (h ∷ ks) _ (one-before on r) (walk.same b)))
 
 -- at a goal the first route has no step
-pub first-there : {G : Graph} {Goal : ℕ → Type 0} {rank : ℕ → ℕ} {x : ℕ} {hs : List ℕ} {l : Length} → Goal x → FirstRoute G Goal rank x hs l → (hs ≡ []) × (l ≡ zeroLength)
+pub first-there : {G : Graph} {Goal : ℕ → Type 0} {rank : ℕ → ℕ} {x : ℕ} {hs : List ℕ} {l : Length} → Goal x → FirstRoute G Goal rank x hs l
+    → (hs ≡ []) × (l ≡ zeroLength)
 first-there {G} {Goal} {x = x} g f = let e = shortest-unique (f .route .short) (goal-zero g) in (by (f .route .walk) e, e)
   where
     by : {y : ℕ} {hs : List ℕ} {l : Length} → Walk G x y hs l → l ≡ zeroLength → hs ≡ []

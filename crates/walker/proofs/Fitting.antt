@@ -1,6 +1,7 @@
--- With a filled table a step fits the numbers exactly if it lies on a shortest way, so the reader's run is the greedy walk. A number is its entry packed, straight × 65,536 + diagonal,
--- with parts below 16,384; so the number here is the number there with the step added exactly if the entries differ by the step.
-use mathlib.Core.Path.{_≡_, refl, ap, sym, subst, _∙_}
+-- With a filled table a step fits the numbers exactly if it lies on a shortest way, so the reader's run is the greedy
+-- walk. A number is its entry packed, straight × 65,536 + diagonal, with parts below 16,384; so the number here is the
+-- number there with the step added exactly if the entries differ by the step.
+use mathlib.Core.Path.{_≡_, ap, sym, subst, _∙_}
 use mathlib.Core.Logic.{_⊎_, inl, inr}
 use mathlib.Core.Bool.{Bool, true, false}
 use mathlib.Core.List.{List, _∷_}
@@ -14,6 +15,7 @@ use Rattle.lengths.proofs.Order.{length-ext}
 use Rattle.steps.specs.declared.Lead.{Lead}
 use Rattle.steps.specs.declared.Lead.the-variants.{To}
 use Rattle.steps.specs.Heading.{weight}
+use Rattle.steps.specs.Ranking.{Ranking}
 use Rattle.steps.specs.Step.{one-step}
 use Rattle.steps.specs.Way.{Graph, Way, stay, step, Shortest}
 use Rattle.steps.proofs.Ways.{tail-shortest}
@@ -21,7 +23,7 @@ use Rattle.entries.specs.Entry.{long, pack, partsOf, malformed, read, entryAt}
 use Rattle.entries.specs.Filled.{Says}
 use Rattle.entries.proofs.Lists.{getD-any}
 use Rattle.entries.proofs.Packing.{read-small, said-small, formed, pack-read}
-use Rattle.walker.specs.Reading.{Order, Run, done, more, cost, fits}
+use Rattle.walker.specs.Walkers.{Run, done, more, cost, fits}
 use Rattle.walker.proofs.Greedy.{OnShort, Follows, arrived, take, on-entries, entries-on}
 use Rattle.walker.proofs.Searching.{Next, stop, goes, next-is, cost-pos, fits-yes, yes-fits}
 
@@ -37,7 +39,7 @@ numbers h v u s w e = by (formed u w)
       read-small v s ∙ ap long (length-ext (omega (arith, one-step (h % 2), t .diagonal)) (omega (arith, one-step (h % 2), t .diagonal))),
     )
 
-module _ (G : Graph) (Goal : ℕ → Type 0) (n : ℕ) (lead : ℕ → ℕ → Lead) (t : List ℕ) (o : Order)
+module _ (G : Graph) (Goal : ℕ → Type 0) (n : ℕ) (lead : ℕ → ℕ → Lead) (t : List ℕ) (o : Ranking)
     (to-step : (h x y : ℕ) → h < 8 → lead h x ≡ To y → G .Step h x y)
     (from-step : (h x y : ℕ) → G .Step h x y → (h < 8) × (lead h x ≡ To y))
     (weigh : (h : ℕ) → G .weight h ≡ weight h)

@@ -1,6 +1,6 @@
--- Document 01's rule for the route: from the start, always take the lowest heading whose step lies on a shortest way to the goal. Over any
--- set of permitted steps, any goal cells, and any rank of the headings. Such a walk is a shortest way; with a filled table the rule is a test on its entries.
--- Assumes nothing.
+-- Document 01's rule for the route: from the start, always take the lowest heading whose step lies on a shortest way to
+-- the goal. Over any set of permitted steps, any goal cells, and any rank of the headings. Such a walk is a shortest
+-- way; with a filled table the rule is a test on its entries.
 use mathlib.Core.Path.{_≡_, refl, ap, subst, _∙_}
 use mathlib.Core.List.{List, [], _∷_}
 use Prim.Native.Nat.{ℕ, _<_}

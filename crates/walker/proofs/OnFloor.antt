@@ -1,4 +1,5 @@
--- The reader on a floor: its run is a walk by permitted steps, with a filled table the first route, and the mark says that there is no way.
+-- The reader on a floor: its run is a walk by permitted steps, with a filled table the first route, and the mark says
+-- that there is no way.
 use mathlib.Core.Path.{_≡_, refl, ap, sym, subst, _∙_}
 use mathlib.Core.Logic.{_≢_, _⊎_, inl, inr}
 use mathlib.Core.Bool.{false}
@@ -26,7 +27,8 @@ use Rattle.entries.proofs.Judging.{filled-says, filled-right}
 use Rattle.walker.specs.Route as walk
 use Rattle.walker.specs.Route.{FirstRoute, Walk}
 use Rattle.walker.specs.Legs.{again}
-use Rattle.walker.specs.Reading.{Order, Run, done, more, Readable}
+use Rattle.steps.specs.Ranking.{Ranking}
+use Rattle.walker.specs.Walkers.{Run, done, more, Readable}
 use Rattle.walker.proofs.First.{first-unique, follows-first}
 use Rattle.walker.proofs.Fitting.{run-follows}
 use Rattle.walker.proofs.ShortRuns.{run-short}
@@ -102,8 +104,8 @@ module _ (m : Map) (c : Sound m) (goal : ℕ) (on : goal < cells m) (t : List �
       let (a, p) = has-length x b n in
       (a, number-is x b ∙ ap pack p, subst (Says (stepsOf m) (Only goal) x) p (right x))
 
-  -- a filled table can be read: of two numbers that differ by a straight step the greater is of a cell with a way of a step or more, and from the other
-  -- there is a way too, or it is the goal, which that way ends in
+  -- a filled table can be read: of two numbers that differ by a straight step the greater is of a cell with a way of a
+  -- step or more, and from the other there is a way too, or it is the goal, which that way ends in
   pub filled-readable : Readable m t
   filled-readable = record { size = f .size; ends = ends }
     where
@@ -131,9 +133,10 @@ module _ (m : Map) (c : Sound m) (goal : ℕ) (on : goal < cells m) (t : List �
   no-way x b e = subst (Says (stepsOf m) (Only goal) x) (ap read (getD-any t x 4294967295 0 (omega (arith, f .size)) ∙ e) ∙ read-mark) (right x)
 
   -- else the reader's run is the first route
-  pub first-run : (o : Order) {x : ℕ} {hs : List ℕ} {a : Length} → x < cells m → getD t x 0 ≢ 4294967295 → Run (leadOf m) t (o .at) x hs a
+  pub first-run : (o : Ranking) {x : ℕ} {hs : List ℕ} {a : Length} → x < cells m → getD t x 0 ≢ 4294967295 → Run (leadOf m) t (o .at) x hs a
       → FirstRoute (stepsOf m) (Only goal) (o .rank) x hs a
   first-run o {x} b n r =
       let (a, p) = has-length x b n in
       follows-first (stepsOf m) (Only goal) (o .rank) (one-way (floor m))
-      (run-follows (stepsOf m) (Only goal) (cells m) (leadOf m) t o (to-step m) (λ h x y s. (s .heading, from-step m h x y s)) (λ h. refl) (on-floor m) (f .size) right well a p r)
+      (run-follows (stepsOf m) (Only goal) (cells m) (leadOf m) t o (to-step m) (λ h x y s. (s .heading, from-step m h x y s)) (λ h. refl) (on-floor m)
+      (f .size) right well a p r)

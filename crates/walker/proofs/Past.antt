@@ -1,5 +1,5 @@
--- A step as the code reads it: where a heading leads is one number off, and for a straight step that the numbers fit nothing but the ends
--- of the row is left to test.
+-- A step as the code reads it: where a heading leads is one number off, and for a straight step that the numbers fit
+-- nothing but the ends of the row is left to test.
 use mathlib.Core.Path.{_≡_, refl, ap, sym, subst, _∙_}
 use mathlib.Core.Bool.{Bool, true, false, false≢true}
 use mathlib.Core.List.{List}
@@ -16,9 +16,9 @@ use Rattle.steps.specs.Heading.{changeOf}
 use Rattle.steps.specs.Leading.{leadOf}
 use Rattle.steps.specs.Step.{stepsOf}
 use Rattle.steps.proofs.Grid.{cell, cell-column, cell-row}
-use Rattle.steps.proofs.Headings.{Shape, level, upright, slanted, shape}
+use Rattle.steps.proofs.Headings.{Slope, level, upright, slanted, slope}
 use Rattle.steps.proofs.Leads.{floor, open-column, to-step, from-step}
-use Rattle.walker.specs.Reading.{Differ, InWidth, Readable, cost, fits, past}
+use Rattle.walker.specs.Walkers.{Differ, InWidth, Readable, cost, fits, past}
 use Rattle.walker.proofs.OnFloor.{lands}
 use Rattle.walker.proofs.Searching.{cost-straight, fits-yes, yes-fits}
 
@@ -54,11 +54,12 @@ module _ (m : Map) (h x : ℕ) (b : h < 8) where
       omega (arith, rows, s .column .sum, add-mul (x / w) (changeOf h .row) w, add-mul (y / w) 1 w, div-add-mod' x w, div-add-mod' y w)
 
   -- column and row of a cell that is counted so, where it does not leave the row's ends
-  record Placed (y : ℕ) : Type 0 where
+  record LandsOn (y : ℕ) : Type 0 where
     column : x % m .width + changeOf h .column ≡ y % m .width + 1
     row : x / m .width + changeOf h .row ≡ y / m .width + 1
 
-  placed : (y : ℕ) → 1 ≤ m .width → y + (m .width + 1) ≡ past (m .width) x h → 1 ≤ x % m .width + changeOf h .column → x % m .width + changeOf h .column ≤ m .width → Placed y
+  placed : (y : ℕ) → 1 ≤ m .width → y + (m .width + 1) ≡ past (m .width) x h → 1 ≤ x % m .width + changeOf h .column
+      → x % m .width + changeOf h .column ≤ m .width → LandsOn y
   unfolding cell
   placed y wide e low high = by (x / m .width + changeOf h .row) refl
     where
@@ -67,22 +68,24 @@ module _ (m : Map) (h x : ℕ) (b : h < 8) where
           let q : (x / m .width + changeOf h .row) * m .width ≡ r * m .width = ap (λ (z : ℕ). z * m .width) p in
           omega (arith, q, e, add-mul (x / m .width) (changeOf h .row) (m .width), div-add-mod' x (m .width))
 
-      by : (r : ℕ) → x / m .width + changeOf h .row ≡ r → Placed y
+      by : (r : ℕ) → x / m .width + changeOf h .row ≡ r → LandsOn y
       by zero p = absurd (omega (arith, whole zero p))
       by (suc r) p =
           let q : y ≡ r * m .width + (x % m .width + changeOf h .column - 1) = omega (arith, whole (suc r) p, add-mul r 1 (m .width)) in
           let i : x % m .width + changeOf h .column - 1 < m .width = omega arith in
-          let u : y % m .width ≡ x % m .width + changeOf h .column - 1 = ap (λ (z : ℕ). z % m .width) q ∙ cell-column (floor m) (x % m .width + changeOf h .column - 1) r i in
+          let u : y % m .width ≡ x % m .width + changeOf h .column - 1 = ap (λ (z : ℕ). z % m .width) q
+          ∙ cell-column (floor m) (x % m .width + changeOf h .column - 1) r i in
           let v : y / m .width ≡ r = ap (λ (z : ℕ). z / m .width) q ∙ cell-row (floor m) (x % m .width + changeOf h .column - 1) r i in
           record { column = omega arith; row = omega arith }
 
-  -- a straight step whose numbers fit, and that does not leave the row, is permitted: both ends are open, and of a straight step they are all its cells
-  straight-lead : Sound m → (t : List ℕ) → Readable m t → h % 2 ≡ 0 → x < cells m → (y : ℕ) → y < cells m → Placed y
+  -- a straight step whose numbers fit, and that does not leave the row, is permitted: both ends are open, and of a
+  -- straight step they are all its cells
+  straight-lead : Sound m → (t : List ℕ) → Readable m t → h % 2 ≡ 0 → x < cells m → (y : ℕ) → y < cells m → LandsOn y
       → getD t x 0 ≡ getD t y 0 + cost h → leadOf m h x ≡ To y
   straight-lead c t r even i y j p d =
-      from-step m h x y (by (shape h b) (r .ends x y i j (d ∙ ap (λ (z : ℕ). getD t y 0 + z) (sym (cost-straight h even)))))
+      from-step m h x y (by (slope h b) (r .ends x y i j (d ∙ ap (λ (z : ℕ). getD t y 0 + z) (sym (cost-straight h even)))))
     where
-      by : Shape h → Open m (x % m .width) (x / m .width) × Open m (y % m .width) (y / m .width) → stepsOf m .Step h x y
+      by : Slope h → Open m (x % m .width) (x / m .width) × Open m (y % m .width) (y / m .width) → stepsOf m .Step h x y
       by (slanted odd k) ends = absurd (omega arith)
       by (upright e₀ k) (from, to) =
           let e : x % m .width ≡ y % m .width = omega (arith, p .column) in

@@ -1,6 +1,5 @@
--- The next heading: the first, by an order of the eight, whose step is permitted and fits the table's numbers. Nothing is asked of the table.
--- The numbers fall with each such step, so the headings come to an end.
--- Assumes nothing.
+-- The next heading: the first, by an order of the eight, whose step is permitted and fits the table's numbers. Nothing
+-- is asked of the table. The numbers fall with each such step, so the headings come to an end.
 use mathlib.Core.Path.{_≡_, refl, ap, sym, subst, _∙_}
 use mathlib.Core.Bool.{Bool, true, false}
 use mathlib.Core.List.{List, [], _∷_}
@@ -12,14 +11,15 @@ use native.Mathlib.Nat.{le-refl}
 use borrow.Author.Tests.{eq-eqb, eqb-true}
 use lib.Dec.{eqb}
 use lib.ListN.{getD}
-use Rattle.given.specs.Given.{pick}
+use Rattle.given.specs.Bools.{pick}
 use Rattle.lengths.specs.declared.Length.{Length}
 use Rattle.lengths.specs.Order.{zeroLength, _⊕_}
 use Rattle.steps.specs.declared.Lead.{Lead}
 use Rattle.steps.specs.declared.Lead.the-variants.{To, Nowhere}
 use Rattle.steps.specs.Heading.{weight}
+use Rattle.steps.specs.Ranking.{Ranking}
 use Rattle.steps.specs.Step.{one-step}
-use Rattle.walker.specs.Reading.{Order, Run, done, more, cost, fits, fitsLead, next, seek}
+use Rattle.walker.specs.Walkers.{Run, done, more, cost, fits, fitsLead, next, seek}
 
 -- what a step costs
 pub cost-straight : (h : ℕ) → h % 2 ≡ 0 → 65536 ≡ cost h
@@ -31,10 +31,10 @@ cost-diagonal h n = let e : h % 2 ≡ 1 = omega arith in rw e
 pub cost-pos : (h : ℕ) → 0 < cost h
 cost-pos h = omega (arith, one-step (h % 2))
 
--- a search, turn by turn
+-- a search, heading by heading
 module _ (test : ℕ → Bool) (at : ℕ → ℕ) (i n : ℕ) (inv : seek test at (8 - i) i ≡ n) where
-  turn : i < 8 → seek test at (8 - i) i ≡ pick (test (at i)) (at i) (seek test at (8 - (i + 1)) (i + 1))
-  turn h =
+  first-of : i < 8 → seek test at (8 - i) i ≡ pick (test (at i)) (at i) (seek test at (8 - (i + 1)) (i + 1))
+  first-of h =
       let e : 8 - i ≡ suc (8 - (i + 1)) = omega arith in
       rw (e, add-one i)
 
@@ -43,12 +43,12 @@ module _ (test : ℕ → Bool) (at : ℕ → ℕ) (i n : ℕ) (inv : seek test a
 
   module _ (h : i < 8) (r : Bool) (f : r ≡ test (at i)) where
     pub seek-found : r ≡ true → at i ≡ n
-    seek-found g = let e : test (at i) ≡ true = sym f ∙ g in sym (turn h ∙ rw e) ∙ inv
+    seek-found g = let e : test (at i) ≡ true = sym f ∙ g in sym (first-of h ∙ rw e) ∙ inv
 
     pub seek-goes : r ≡ false → seek test at (8 - (i + 1)) (i + 1) ≡ n
-    seek-goes g = let e : test (at i) ≡ false = sym f ∙ g in sym (turn h ∙ rw e) ∙ inv
+    seek-goes g = let e : test (at i) ≡ false = sym f ∙ g in sym (first-of h ∙ rw e) ∙ inv
 
--- two headings at a turn, the first of them even
+-- two headings at once, the first of them even
 module _ (test : ℕ → Bool) (at : ℕ → ℕ) (i n : ℕ) (inv : seek test at (8 - i) i ≡ n) (even : i % 2 ≡ 0) (h : i < 8)
     (r : Bool) (f : r ≡ test (at i)) (off : r ≡ false) (q : Bool) (g : q ≡ test (at (i + 1))) where
   once : seek test at (8 - (i + 1)) (i + 1) ≡ n
@@ -108,7 +108,7 @@ module _ (lead : ℕ → ℕ → Lead) (table : List ℕ) where
   pub yes-fits : (x h y : ℕ) → lead h x ≡ To y → getD table x 0 ≡ getD table y 0 + cost h → fits lead table x h ≡ true
   yes-fits x h y p e = sym (fits-to x h y p) ∙ eq-eqb (getD table x 0) (getD table y 0 + cost h) e
 
-  module _ (o : Order) where
+  module _ (o : Ranking) where
     abbrev go : ℕ → ℕ
     go = next lead table (o .at)
 

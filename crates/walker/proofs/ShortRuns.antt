@@ -1,5 +1,5 @@
--- On a floor with sides of at most 128 no run of one heading is longer than 127: each of its steps changes the column by one, or the row by
--- one, always the same way.
+-- On a floor with sides of at most 128 no run of one heading is longer than 127: each of its steps changes the column
+-- by one, or the row by one, always the same way.
 use mathlib.Core.Path.{_≡_}
 use mathlib.Core.List.{List}
 use Prim.Native.Nat.{ℕ, zero, suc, _+_, _%_, _/_, _≤_, _<_}
@@ -27,19 +27,20 @@ drift-more n s d = record { back = λ e. let q = d .back e in omega (arith, s .s
 
 module _ (f : Floor) (wide : f .width ≤ 128) (high : f .height ≤ 128) where
   -- n steps by the heading h lead from x to z, which lies on the floor
-  record On (h x z n : ℕ) : Type 0 where
+  record Drifted (h x z n : ℕ) : Type 0 where
     column : Drift (changeOf h .column) (x % f .width) (z % f .width) n
     row : Drift (changeOf h .row) (x / f .width) (z / f .width) n
     in-column : z % f .width < f .width
     in-row : z / f .width < f .height
 
-  drifts : (n h : ℕ) (hs : List ℕ) {x y : ℕ} {l : Length} → x % f .width < f .width → x / f .width < f .height → Walk (graph f) x y (again n h hs) l → (z : ℕ) × On h x z n
+  drifts : (n h : ℕ) (hs : List ℕ) {x y : ℕ} {l : Length} → x % f .width < f .width → x / f .width < f .height → Walk (graph f) x y (again n h hs) l
+      → (z : ℕ) × Drifted h x z n
   drifts zero h hs {x} a b w = (x, record { column = drift-none _ _; row = drift-none _ _; in-column = a; in-row = b })
   drifts (suc n) h hs a b (walk.step s w) =
       let (z, o) = drifts n h hs (f .column _ _ (s .to)) (f .row _ _ (s .to)) w in
       (z, record { column = drift-more n (s .column) (o .column); row = drift-more n (s .row) (o .row); in-column = o .in-column; in-row = o .in-row })
 
-  few : (h x z n : ℕ) → x % f .width < f .width → x / f .width < f .height → Changes h → On h x z n → n ≤ 127
+  few : (h x z n : ℕ) → x % f .width < f .width → x / f .width < f .height → Changes h → Drifted h x z n → n ≤ 127
   few h x z n a b c o = by (ℕ-discrete (changeOf h .column) 0) (ℕ-discrete (changeOf h .column) 2) (ℕ-discrete (changeOf h .row) 0)
     where
       by : Dec (changeOf h .column ≡ 0) → Dec (changeOf h .column ≡ 2) → Dec (changeOf h .row ≡ 0) → n ≤ 127

@@ -1,5 +1,5 @@
--- The walker's step, and a run of steps by one heading: a leg. Invariants are "for every run from the start, what is left of it from here".
--- Assumes nothing.
+-- The walker's step, and a run of steps by one heading: a leg. Invariants are "for every run from the start, what is
+-- left of it from here".
 use mathlib.Core.Path.{_≡_, refl, ap, sym, subst, _∙_}
 use mathlib.Core.List.{List, _∷_}
 use Prim.Native.Nat.{ℕ, zero, suc, _+_, _-_, _%_, _≤_, _<_}
@@ -12,12 +12,13 @@ use Rattle.lengths.proofs.Order.{length-ext}
 use Rattle.steps.specs.declared.Lead.the-variants.{To}
 use Rattle.floor.specs.Floor.{Map}
 use Rattle.steps.specs.Heading.{weight}
+use Rattle.steps.specs.Ranking.{Ranking}
 use Rattle.floor.specs.Inner.{Sound}
 use Rattle.steps.specs.Leading.{leadOf}
 use Rattle.steps.specs.Step.{one-step}
 use Rattle.walker.specs.declared.Walker.{Walker}
 use Rattle.walker.specs.Legs.{again}
-use Rattle.walker.specs.Reading.{Order, Run, done, more, cost, fits, next, past, Stands, Steps, Stepped, Split, Going, Leads}
+use Rattle.walker.specs.Walkers.{Run, done, more, cost, fits, next, past, Stands, Steps, Stepped, Split, Walked, Leads}
 use Rattle.walker.proofs.OnFloor.{lands, leg-short}
 use Rattle.walker.proofs.Past.{lead-past}
 use Rattle.walker.proofs.Searching.{Next, stop, goes, next-is, cost-pos, fits-yes, run-exists}
@@ -29,7 +30,7 @@ one-straight l h e = rw e (length-ext refl (omega arith))
 pub one-diagonal : (l : Length) (h : ℕ) → (h % 2 ≡ 0 → ⊥) → record { straight = l .straight; diagonal = l .diagonal + 1 } ≡ l ⊕ weight h
 one-diagonal l h n = let e : h % 2 ≡ 1 = omega arith in rw e (length-ext (omega arith) refl)
 
-module _ (m : Map) (t : List ℕ) (o : Order) where
+module _ (m : Map) (t : List ℕ) (o : Ranking) where
   -- the next heading is one of the eight, or 8
   pub next-small : (w : Walker) → Stands m t o w → w .next ≤ 8
   next-small w s = by (next-is (leadOf m) t o (w .cell))
@@ -76,11 +77,16 @@ module _ (m : Map) (t : List ℕ) (o : Order) where
             lead = q;
             sum = sum;
             falls = omega (arith, cost-pos (w .next));
-            stands = record { on = lands m (w .next) (w .cell) (v .cell) b q; ready = ready; few = omega (arith, s .few, cost-pos (w .next), one-step (w .next % 2)) };
+            stands = record {
+              on = lands m (w .next) (w .cell) (v .cell) b q;
+              ready = ready;
+              few = omega
+                  (arith, s .few, cost-pos (w .next), one-step (w .next % 2));
+            };
           };
         }
 
-  pub going-start : (w : Walker) (h : ℕ) → Stands m t o w → Going m t o w w 0 h
+  pub going-start : (w : Walker) (h : ℕ) → Stands m t o w → Walked m t o w w 0 h
   going-start w h s = record {
     stands = s;
     falls = omega arith;
@@ -117,7 +123,7 @@ module _ (m : Map) (t : List ℕ) (o : Order) where
   moves w v h b e s = s .moved (subst (λ (i : ℕ). i < 8) (sym e) b)
 
   -- one step more
-  pub going-more : (w v u : Walker) (n h : ℕ) → h < 8 → Going m t o w v n h → v .next ≡ h → Stepped m t o v u → Going m t o w u (n + 1) h
+  pub going-more : (w v u : Walker) (n h : ℕ) → h < 8 → Walked m t o w v n h → v .next ≡ h → Stepped m t o v u → Walked m t o w u (n + 1) h
   going-more w v u n h b g e d =
       let s = moves v u h b e d in
       record {
@@ -134,17 +140,18 @@ module _ (m : Map) (t : List ℕ) (o : Order) where
             rest = q .rest;
             left = q .left;
             run = q .run;
-            heads = p .heads ∙ ap (again n h) (q .heads ∙ ap (λ (i : ℕ). i ∷ q .rest) e) ∙ again-more n h (q .rest) ∙ ap (λ (i : ℕ). again i h (q .rest)) (sym (add-one n));
+            heads = p .heads ∙ ap (again n h) (q .heads ∙ ap (λ (i : ℕ). i ∷ q .rest) e) ∙ again-more n h (q .rest)
+                ∙ ap (λ (i : ℕ). again i h (q .rest)) (sym (add-one n));
             sum = q .sum ∙ p .sum;
           }
 
   -- the leg is whole
-  pub going-leads : (c : Sound m) (w v : Walker) (n : ℕ) → w .next < 8 → Stands m t o w → Going m t o w v n (w .next) → (v .next ≡ w .next → ⊥)
+  pub going-leads : (c : Sound m) (w v : Walker) (n : ℕ) → w .next < 8 → Stands m t o w → Walked m t o w v n (w .next) → (v .next ≡ w .next → ⊥)
       → Leads m t o w (record { heading = w .next; count = n; after = v })
-  going-leads c w v n b s g turns = record {
+  going-leads c w v n b s g ends = record {
     heading = refl;
     going = g;
-    turns = turns;
+    whole = ends;
     some = by n (g .first);
     short =
         let (hs, a, r) = run-exists (leadOf m) t o (w .cell) in
@@ -153,5 +160,5 @@ module _ (m : Map) (t : List ℕ) (o : Order) where
   }
     where
       by : (i : ℕ) → (i ≡ 0 → v ≡ w) → 0 < i
-      by zero f = absurd (turns (ap (λ (z : Walker). z .next) (f refl)))
+      by zero f = absurd (ends (ap (λ (z : Walker). z .next) (f refl)))
       by (suc i) f = omega arith

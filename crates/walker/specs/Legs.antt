@@ -1,5 +1,4 @@
 -- Document 01, "Routes and legs": a leg is a longest run of one heading: a byte for the heading, a byte for the count.
--- Assumes nothing.
 use mathlib.Core.Path.{_≡_}
 use mathlib.Core.Logic.{_≢_}
 use mathlib.Core.List.{List, [], _∷_}
@@ -20,14 +19,14 @@ join [] = []
 join (a ∷ ls) = again (a .count) (a .heading) (join ls)
 
 -- the first of these legs has another heading than h
-abbrev pub Turns : ℕ → List Leg → Type 0
-Turns h [] = Unit {0}
-Turns h (a ∷ ls) = h ≢ a .heading
+abbrev pub OtherFirst : ℕ → List Leg → Type 0
+OtherFirst h [] = Unit {0}
+OtherFirst h (a ∷ ls) = h ≢ a .heading
 
 -- every leg has a step, and its heading differs from the next one's, so that it is a longest run
 abbrev pub Proper : List Leg → Type 0
 Proper [] = Unit {0}
-Proper (a ∷ ls) = (0 < a .count) × (Turns (a .heading) ls × Proper ls)
+Proper (a ∷ ls) = (0 < a .count) × (OtherFirst (a .heading) ls × Proper ls)
 
 -- ls are the legs of hs
 pub record Legs (hs : List ℕ) (ls : List Leg) : Type 0 where

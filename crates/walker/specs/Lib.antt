@@ -1,3 +1,3 @@
 pub mod Route
 pub mod Legs
-pub mod Reading
+pub mod Walkers

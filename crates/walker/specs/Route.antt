@@ -1,6 +1,6 @@
--- Document 01, "Routes and legs", and demand 2: the route is a shortest way, and of all shortest ways the first in dictionary order of headings.
--- That this is document 01's rule, always the lowest heading whose step lies on a shortest way, is `follows-first` and `first-follows` of proofs/First.
--- Assumes nothing.
+-- Document 01, "Routes and legs", and demand 2: the route is a shortest way, and of all shortest ways the first in
+-- dictionary order of headings. That this is document 01's rule, always the lowest heading whose step lies on a
+-- shortest way, is `follows-first` and `first-follows` of proofs/First.
 use mathlib.Core.List.{List, [], _∷_}
 use Prim.Native.Nat.{ℕ, _<_}
 use Rattle.lengths.specs.declared.Length.{Length}

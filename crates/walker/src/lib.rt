@@ -5,10 +5,11 @@ ghost use lib.ListN.{length};
 ghost use Rattle.lengths.specs.Order.{_⊕_, steps};
 ghost use Rattle.floor.specs.Floor.{mapOf};
 ghost use Rattle.steps.specs.Heading.{weight};
+ghost use Rattle.steps.specs.Ranking.{numbered};
 ghost use Rattle.floor.specs.Inner.{Sound};
 ghost use Rattle.steps.specs.Leading.{leadOf};
-ghost use Rattle.walker.specs.Reading.{numbered, cost, fits, next};
-ghost use Rattle.walker.specs.Reading.{Readable, past, Differ, InWidth, Stands, Starts, Stepped, Leads};
+ghost use Rattle.walker.specs.Walkers.{cost, fits, next};
+ghost use Rattle.walker.specs.Walkers.{Readable, past, Differ, InWidth, Stands, Starts, Stepped, Leads};
 use lengths::Length;
 use steps::Lead;
 
@@ -81,8 +82,8 @@ fn in_width(width: usize, cell: usize, heading: usize) -> bool
     column <= width
 }
 
-// Whether the step is permitted and the numbers of its ends differ by it. The numbers are compared first: they seldom do;
-// and where they differ by a straight step, both ends are open.
+// Whether the step is permitted and the numbers of its ends differ by it. The numbers are compared first: they seldom
+// do; and where they differ by a straight step, both ends are open.
 fn fits_step(
     width: usize,
     height: usize,
@@ -108,9 +109,10 @@ fn fits_step(
     true
 }
 
-// The lowest heading whose step fits the table; 8 where none does, at the goal. A straight one and a diagonal one at each turn.
-// It must call `fits_step` twice a turn: with one call the compiler inlines `lead_of`, does not unroll the loop, and copies the
-// table of headings at each turn, which makes a long route slower by half or more. Time it after any change here.
+// The lowest heading whose step fits the table; 8 where none does, at the goal. A straight one and a diagonal one at
+// each turn. It must call `fits_step` twice a turn: with one call the compiler inlines `lead_of`, does not unroll the
+// loop, and copies the table of headings at each turn, which makes a long route slower by half or more. Time it after
+// any change here.
 fn next_heading(width: usize, height: usize, map: &[u8], table: &[u32], cell: usize) -> usize
     requires { ⌜ Sound (mapOf width height (now map)) ⌝ }
     requires { ⌜ Readable (mapOf width height (now map)) (now table) ⌝ }

@@ -1,4 +1,5 @@
--- Each answer of the reader, from what its functions leave: no way at the mark; else what lies ahead of a walker at the start is the first route.
+-- Each answer of the reader, from what its functions leave: no way at the mark; else what lies ahead of a walker at the
+-- start is the first route.
 use mathlib.Core.Path.{_≡_, refl, sym, subst, ap, _∙_}
 use mathlib.Core.Logic.{_≢_}
 use mathlib.Core.List.{List}
@@ -19,25 +20,28 @@ use Rattle.entries.specs.Filled.{Filled}
 use Rattle.walker.specs.declared.Walker.{Walker}
 use Rattle.walker.specs.Route.{FirstRoute}
 use Rattle.walker.specs.Legs.{Leg}
-use Rattle.walker.specs.Reading.{Order, Run, Starts}
+use Rattle.steps.specs.Ranking.{Ranking}
+use Rattle.walker.specs.Walkers.{Run, Starts}
 use Rattle.entries.proofs.Lists.{getD-any}
 use Rattle.walker.proofs.OnFloor.{first-run, no-way}
 use Rattle.walking.specs.declared.Way.{Way}
-use Rattle.walking.specs.declared.Reading.the-variants as reading
-use Rattle.walking.specs.Read.{Routes, Reads}
-use Rattle.walking.specs.Ahead.{Ahead, Counted, Room, Wanted, Written}
+use Rattle.walking.specs.declared.RouteReading.the-variants as reading
+use Rattle.walking.specs.Read.{Routes, ReadsRoute}
+use Rattle.walking.specs.Ahead.{Ahead, Counted, LegRoom, Wanted, LegsWritten}
 use Rattle.walking.proofs.LegSteps.{few-legs, route-entry, route-steps}
 use Rattle.walking.proofs.LegsAhead.{ahead-exists}
 
-module _ (m : Map) (c : Sound m) (goal : ℕ) (on : goal < cells m) (t : List ℕ) (f : Filled (stepsOf m) (Only goal) (cells m) t) (o : Order) (start : ℕ) (b : start < cells m) where
-  pub reads-no-way : (old : List ℕ) → getD t start 0 ≡ 4294967295 → Reads (stepsOf m) (Only goal) (o .rank) start old reading.NoWay old
+module _ (m : Map) (c : Sound m) (goal : ℕ) (on : goal < cells m) (t : List ℕ) (f : Filled (stepsOf m) (Only goal) (cells m) t) (o : Ranking)
+    (start : ℕ) (b : start < cells m) where
+  pub reads-no-way : (old : List ℕ) → getD t start 0 ≡ 4294967295 → ReadsRoute (stepsOf m) (Only goal) (o .rank) start old reading.NoWay old
   reads-no-way old e = record { none = no-way m c goal on t f start b e; same = refl }
 
   -- what lies ahead of a walker at the start is the first route
   ahead-route : (w : Walker) → Starts m t o start w → getD t start 0 ≢ 4294967295 → (ls : List Leg) (l : Length) → Ahead m t o w ls l
       → Routes (stepsOf m) (Only goal) (o .rank) start l ls
   ahead-route w s n ls l h =
-      let r : Run (leadOf m) t (o .at) start (h .headings) (h .left) = subst (λ (i : ℕ). Run (leadOf m) t (o .at) i (h .headings) (h .left)) (s .there) (h .run) in
+      let r : Run (leadOf m) t (o .at) start (h .headings) (h .left) = subst (λ (i : ℕ). Run (leadOf m) t (o .at) i (h .headings) (h .left)) (s .there)
+      (h .run) in
       let e : h .left ≡ l = length-ext (omega arith) (omega arith) ∙ ap (λ (z : Length). z ⊕ h .left) (sym (s .none)) ∙ h .sum in
       record {
         headings = h .headings;
@@ -72,14 +76,15 @@ module _ (m : Map) (c : Sound m) (goal : ℕ) (on : goal < cells m) (t : List �
       small = d .small;
     }
 
-    pub reads-no-room : (k : ℕ) (old : List ℕ) → Wanted m t o w (length old) k → length old < 2 * k → Reads (stepsOf m) (Only goal) (o .rank) start old (reading.NoRoom k) old
+    pub reads-no-room : (k : ℕ) (old : List ℕ) → Wanted m t o w (length old) k → length old < 2 * k
+        → ReadsRoute (stepsOf m) (Only goal) (o .rank) start old (reading.NoRoom k) old
     reads-no-room k old d h =
         let (ls, l, a) = ahead-exists m t o w in
         let e = d .exact h ls l a in
         record { size = l; legs = ls; route = ahead-route w s n ls l a; counted = e; short = omega arith; same = refl }
 
-    pub reads-way : (k : Way) (old new : List ℕ) → Room m t o w old → Counted m t o w k → Written m t o w old new
-        → Reads (stepsOf m) (Only goal) (o .rank) start old (reading.Way k) new
+    pub reads-way : (k : Way) (old new : List ℕ) → LegRoom m t o w old → Counted m t o w k → LegsWritten m t o w old new
+        → ReadsRoute (stepsOf m) (Only goal) (o .rank) start old (reading.Way k) new
     reads-way k old new room d p =
         let (ls, l, a) = ahead-exists m t o w in
         let (e, g) = d .exact ls l a in

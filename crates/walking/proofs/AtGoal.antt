@@ -1,6 +1,5 @@
--- Document 01, "Routes and legs": at the goal a step hands back the same, and start equal to goal gives length (0, 0) and no legs. With a filled table
--- the next heading is 8 at the goal, and nowhere else from where there is a way.
--- Assumes nothing.
+-- Document 01, "Routes and legs": at the goal a step hands back the same, and start equal to goal gives length (0, 0)
+-- and no legs. With a filled table the next heading is 8 at the goal, and nowhere else from where there is a way.
 use mathlib.Core.Path.{_≡_, refl, ap, ap₂, sym, subst, _∙_}
 use mathlib.Core.Logic.{_≢_}
 use mathlib.Core.List.{List, [], _++_}
@@ -20,17 +19,18 @@ use Rattle.walker.specs.declared.Walker.{Walker}
 use Rattle.walker.specs.Route as walk
 use Rattle.walker.specs.Route.{Walk}
 use Rattle.walker.specs.Legs.{Leg, Legs, bytes}
-use Rattle.walker.specs.Reading.{Order, Run, done, more, next, Stands, Steps, Stepped}
+use Rattle.steps.specs.Ranking.{Ranking}
+use Rattle.walker.specs.Walkers.{Run, done, more, next, Stands, Steps, Stepped}
 use Rattle.walker.proofs.First.{first-there}
 use Rattle.walker.proofs.OnFloor.{first-run, no-way}
 use Rattle.walker.proofs.Searching.{run-exists}
 use Rattle.walker.proofs.Stepping.{next-small}
-use Rattle.walking.specs.declared.Reading.{Reading}
-use Rattle.walking.specs.declared.Reading.the-variants as reading
-use Rattle.walking.specs.Read.{Routes, Reads}
+use Rattle.walking.specs.declared.RouteReading.{RouteReading}
+use Rattle.walking.specs.declared.RouteReading.the-variants as reading
+use Rattle.walking.specs.Read.{Routes, ReadsRoute}
 use Rattle.walking.proofs.LegsOf.{legs-unique, no-legs}
 
-module _ (m : Map) (c : Sound m) (goal : ℕ) (on : goal < cells m) (t : List ℕ) (f : Filled (stepsOf m) (Only goal) (cells m) t) (o : Order) where
+module _ (m : Map) (c : Sound m) (goal : ℕ) (on : goal < cells m) (t : List ℕ) (f : Filled (stepsOf m) (Only goal) (cells m) t) (o : Ranking) where
   abbrev go : ℕ → ℕ
   go = next (leadOf m) t (o .at)
 
@@ -68,7 +68,7 @@ module _ (G : Graph) (Goal : ℕ → Type 0) (rank : ℕ → ℕ) (start : ℕ) 
       (f, legs-unique (subst (λ (hs : List ℕ). Legs hs ls) e (r .legs-are)) no-legs)
 
   -- start equal to goal gives length (0, 0) and no legs
-  pub reads-there : (old : List ℕ) (r : Reading) (new : List ℕ) → Reads G Goal rank start old r new
+  pub reads-there : (old : List ℕ) (r : RouteReading) (new : List ℕ) → ReadsRoute G Goal rank start old r new
       → (r ≡ reading.Way (record { length = zeroLength; legs = 0 })) × (new ≡ old)
   reads-there old (reading.Way w) new p =
       let (e, f) = no-step (p .route) in (

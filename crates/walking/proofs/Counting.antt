@@ -1,5 +1,4 @@
 -- Counting the legs ahead of a walker.
--- Assumes nothing.
 use mathlib.Core.Path.{_≡_, ap}
 use mathlib.Core.List.{List}
 use Prim.Native.Nat.{ℕ, suc, _+_, _≤_}
@@ -10,12 +9,13 @@ use Rattle.floor.specs.Floor.{Map}
 use Rattle.walker.specs.declared.Walker.{Walker}
 use Rattle.walker.specs.declared.WalkedLeg.{WalkedLeg}
 use Rattle.walker.specs.Legs.{Leg}
-use Rattle.walker.specs.Reading.{Order, Stands, Leads}
+use Rattle.steps.specs.Ranking.{Ranking}
+use Rattle.walker.specs.Walkers.{Stands, Leads}
 use Rattle.walking.specs.Ahead.{Ahead, Counted}
 use Rattle.walking.proofs.LegsAhead.{ahead-leg, ahead-end}
 
 -- k legs of w are counted, and v stands after them
-pub record Counting (m : Map) (t : List ℕ) (o : Order) (w v : Walker) (k : ℕ) : Type 0 where
+pub record CountingLegs (m : Map) (t : List ℕ) (o : Ranking) (w v : Walker) (k : ℕ) : Type 0 where
   -- v stands on the floor and knows its next heading
   pub stands : Stands m t o v
   -- the number has fallen by a step for each leg at least
@@ -23,11 +23,11 @@ pub record Counting (m : Map) (t : List ℕ) (o : Order) (w v : Walker) (k : ℕ
   -- what was ahead of w is k legs and what is ahead of v
   pub ahead : (ls : List Leg) (total : Length) → Ahead m t o w ls total → (ks : List Leg) × Ahead m t o v ks total × (length ls ≡ k + length ks)
 
-module _ (m : Map) (t : List ℕ) (o : Order) where
-  pub counting-start : (w : Walker) → Stands m t o w → Counting m t o w w 0
+module _ (m : Map) (t : List ℕ) (o : Ranking) where
+  pub counting-start : (w : Walker) → Stands m t o w → CountingLegs m t o w w 0
   counting-start w s = record { stands = s; falls = omega arith; ahead = λ ls total a. (ls, a, omega arith) }
 
-  pub counting-more : (w v : Walker) (k : ℕ) (r : WalkedLeg) → Counting m t o w v k → Leads m t o v r → Counting m t o w (r .after) (k + 1)
+  pub counting-more : (w v : Walker) (k : ℕ) (r : WalkedLeg) → CountingLegs m t o w v k → Leads m t o v r → CountingLegs m t o w (r .after) (k + 1)
   counting-more w v k r c d = record {
     stands = d .going .stands;
     falls = omega (arith, c .falls, d .going .falls, d .some);
@@ -37,7 +37,8 @@ module _ (m : Map) (t : List ℕ) (o : Order) where
         (js, g, let n : length ks ≡ suc (length js) = ap length f in omega arith);
   }
 
-  pub counting-end : (w v : Walker) (k : ℕ) → Stands m t o w → Counting m t o w v k → 8 ≤ v .next → Counted m t o w (record { length = v .length; legs = k })
+  pub counting-end : (w v : Walker) (k : ℕ) → Stands m t o w → CountingLegs m t o w v k → 8 ≤ v .next
+      → Counted m t o w (record { length = v .length; legs = k })
   counting-end w v k s c b = record {
     exact = λ ls total a.
         let (ks, d, e) = c .ahead ls total a in

@@ -1,5 +1,5 @@
--- The steps of legs: a walk is as long as its legs count straight and diagonal steps, and a filled table has this length at its start.
--- Assumes nothing.
+-- The steps of legs: a walk is as long as its legs count straight and diagonal steps, and a filled table has this
+-- length at its start.
 use mathlib.Core.Path.{_≡_, refl, ap, sym, subst, _∙_}
 use mathlib.Core.List.{List, [], _∷_}
 use Prim.Native.Nat.{ℕ, zero, suc, _*_, _≤_, _<_}
@@ -29,13 +29,13 @@ stepsIn weight (a ∷ ls) = stepsIn weight ls ⊕ times (a .count) (weight (a .h
 
 module _ (G : Graph) where
   -- what is left of a walk after n steps by the heading h
-  pub record After (n h : ℕ) (hs : List ℕ) (y : ℕ) (l : Length) : Type 0 where
+  pub record AfterLeg (n h : ℕ) (hs : List ℕ) (y : ℕ) (l : Length) : Type 0 where
     pub cell : ℕ
     pub left : Length
     pub rest : Walk G cell y hs left
     pub sum : l ≡ left ⊕ times n (G .weight h)
 
-  pub after : (n h : ℕ) (hs : List ℕ) {x y : ℕ} {l : Length} → Walk G x y (again n h hs) l → After n h hs y l
+  pub after : (n h : ℕ) (hs : List ℕ) {x y : ℕ} {l : Length} → Walk G x y (again n h hs) l → AfterLeg n h hs y l
   after zero h hs {x} {l = l} w = record { cell = x; left = l; rest = w; sum = length-ext (omega arith) (omega arith) }
   after (suc n) h hs (walk.step s w) =
       let a = after n h hs w in

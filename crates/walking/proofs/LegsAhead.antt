@@ -1,5 +1,4 @@
 -- The legs ahead of a walker: there are some, the first is the leg that it walks next, and at the goal there are none.
--- Assumes nothing.
 use mathlib.Core.Path.{_≡_, refl, ap, sym, subst, _∙_}
 use mathlib.Core.Logic.{_≢_}
 use mathlib.Core.List.{List, [], _∷_}
@@ -13,7 +12,8 @@ use Rattle.steps.specs.Leading.{leadOf}
 use Rattle.walker.specs.declared.Walker.{Walker}
 use Rattle.walker.specs.declared.WalkedLeg.{WalkedLeg}
 use Rattle.walker.specs.Legs.{Leg, Legs}
-use Rattle.walker.specs.Reading.{Order, Run, done, more, Stands, Leads}
+use Rattle.steps.specs.Ranking.{Ranking}
+use Rattle.walker.specs.Walkers.{Run, done, more, Stands, Leads}
 use Rattle.walker.proofs.Searching.{run-exists}
 use Rattle.walking.specs.Ahead.{Ahead}
 use Rattle.walking.proofs.LegsOf.{Other, legs-more, legs-of, legs-unique, no-legs}
@@ -21,7 +21,7 @@ use Rattle.walking.proofs.LegsOf.{Other, legs-more, legs-of, legs-uniqu
 abbrev pub leg-of : WalkedLeg → Leg
 leg-of r = record { heading = r .heading; count = r .count }
 
-module _ (m : Map) (t : List ℕ) (o : Order) where
+module _ (m : Map) (t : List ℕ) (o : Ranking) where
   pub ahead-exists : (w : Walker) → (ls : List Leg) × (total : Length) × Ahead m t o w ls total
   ahead-exists w =
       let (hs, a, r) = run-exists (leadOf m) t o (w .cell) in
@@ -39,7 +39,7 @@ module _ (m : Map) (t : List ℕ) (o : Order) where
   ahead-leg w r d ls total a =
       let p = d .going .split (a .headings) (a .left) (a .run) in
       let (ks, g) = legs-of (p .rest) in
-      let other = run-other (r .after) (w .next) (p .rest) (p .left) (d .going .stands) (d .turns) (p .run) in
+      let other = run-other (r .after) (w .next) (p .rest) (p .left) (d .going .stands) (d .whole) (p .run) in
       let more-legs = legs-more (w .next) (r .count) (p .rest) ks (d .some) other g in
       let e = legs-unique (a .legs) (subst (λ (i : List ℕ). Legs i (record { heading = w .next; count = r .count } ∷ ks)) (sym (p .heads)) more-legs) in (
         ks,

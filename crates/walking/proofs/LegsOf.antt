@@ -1,5 +1,4 @@
 -- A list of headings has one list of legs, and their bytes are two for each.
--- Assumes nothing.
 use mathlib.Core.Path.{_≡_, refl, ap, ap₂, sym, subst, _∙_}
 use mathlib.Core.Logic.{_≢_}
 use mathlib.Core.List.{List, [], _∷_}
@@ -7,7 +6,7 @@ use Prim.Native.Nat.{ℕ, zero, suc, _*_, _<_}
 use native.Mathlib.Omega.{arith}
 use native.Mathlib.Decide.{ℕ-discrete}
 use lib.ListN.{length}
-use Rattle.walker.specs.Legs.{Leg, Legs, Proper, Turns, again, bytes, join}
+use Rattle.walker.specs.Legs.{Leg, Legs, Proper, OtherFirst, again, bytes, join}
 
 pub length-bytes : (ls : List Leg) → length (bytes ls) ≡ 2 * length ls
 length-bytes [] = refl
@@ -35,19 +34,19 @@ again-other : (h k n : ℕ) (hs : List ℕ) → 0 < n → Other h (again n k hs)
 again-other h k zero hs p e = absurd (omega arith)
 again-other h k (suc n) hs p e = e
 
-turns-other : (h : ℕ) (ls : List Leg) → Proper ls → Turns h ls → Other h (join ls)
-turns-other h [] p t = tt
-turns-other h (a ∷ ls) p t = other-again h (a .heading) (a .count) (join ls) (p .0) t
+first-other : (h : ℕ) (ls : List Leg) → Proper ls → OtherFirst h ls → Other h (join ls)
+first-other h [] p t = tt
+first-other h (a ∷ ls) p t = other-again h (a .heading) (a .count) (join ls) (p .0) t
 
-other-turns : (h : ℕ) (ls : List Leg) → Proper ls → Other h (join ls) → Turns h ls
-other-turns h [] p t = tt
-other-turns h (a ∷ ls) p t = again-other h (a .heading) (a .count) (join ls) (p .0) t
+other-first : (h : ℕ) (ls : List Leg) → Proper ls → Other h (join ls) → OtherFirst h ls
+other-first h [] p t = tt
+other-first h (a ∷ ls) p t = again-other h (a .heading) (a .count) (join ls) (p .0) t
 
 -- one leg more
 pub legs-more : (h n : ℕ) (hs : List ℕ) (ls : List Leg) → 0 < n → Other h hs → Legs hs ls → Legs (again n h hs) (record { heading = h; count = n } ∷ ls)
 legs-more h n hs ls p o l = record {
   joined = ap (again n h) (l .joined);
-  proper = (p, (other-turns h ls (l .proper) (subst (Other h) (sym (l .joined)) o), l .proper));
+  proper = (p, (other-first h ls (l .proper) (subst (Other h) (sym (l .joined)) o), l .proper));
 }
 
 first-of : (h k n m : ℕ) (r s : List ℕ) → 0 < n → 0 < m → again n h r ≡ again m k s → h ≡ k
@@ -68,8 +67,8 @@ joined-once (a ∷ ls) (b ∷ ks) p q e =
     let f : a .heading ≡ b .heading = first-of (a .heading) (b .heading) (a .count) (b .count) (join ls) (join ks) (p .0) (q .0) e in
     let (n, r) =
     again-inj (a .heading) (a .count) (b .count) (join ls) (join ks)
-    (turns-other (a .heading) ls (p .1 .1) (p .1 .0))
-    (subst (λ (h : ℕ). Other h (join ks)) (sym f) (turns-other (b .heading) ks (q .1 .1) (q .1 .0)))
+    (first-other (a .heading) ls (p .1 .1) (p .1 .0))
+    (subst (λ (h : ℕ). Other h (join ks)) (sym f) (first-other (b .heading) ks (q .1 .1) (q .1 .0)))
     (e ∙ ap (λ (h : ℕ). again (b .count) h (join ks)) (sym f)) in
     ap₂ _∷_ (ap₂ (λ (h n : ℕ). record { heading = h; count = n }) f n) (joined-once ls ks (p .1 .1) (q .1 .1) r)
 

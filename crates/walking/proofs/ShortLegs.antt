@@ -1,5 +1,4 @@
 -- On a floor with sides of at most 128 every leg of a route has 1 to 127 steps.
--- Assumes nothing.
 use mathlib.Core.Path.{sym, subst}
 use mathlib.Core.List.{List, [], _∷_}
 use Prim.Native.Nat.{ℕ, zero, suc, _≤_, _<_}

@@ -1,6 +1,6 @@
--- One answer and one leg buffer at most: two first routes from the start are the same, so their lengths, their legs and their legs' bytes are.
--- Of the relation, over any rank of the headings and any goal cells, and of `read_route`'s contract as the checker reads it.
--- Assumes nothing.
+-- One answer and one leg buffer at most: two first routes from the start are the same, so their lengths, their legs and
+-- their legs' bytes are. Of the relation, over any rank of the headings and any goal cells, and of `read_route`'s
+-- contract as the checker reads it.
 use mathlib.Core.Path.{_≡_, refl, ap, ap₂, sym, subst, _∙_}
 use mathlib.Core.List.{List, _++_}
 use Prim.Native.Nat.{ℕ, _*_, _<_}
@@ -14,32 +14,32 @@ use Rattle.steps.specs.Way.{Reach}
 use Rattle.steps.proofs.Ways.{shortest-unique}
 use Rattle.walker.specs.Legs.{Leg, Legs, bytes}
 use Rattle.walker.proofs.OnFloor.{route-unique}
-use Rattle.walking.specs.declared.Reading.{Reading}
-use Rattle.walking.specs.declared.Reading.the-variants as reading
+use Rattle.walking.specs.declared.RouteReading.{RouteReading}
+use Rattle.walking.specs.declared.RouteReading.the-variants as reading
 use Rattle.walking.specs.declared.Way.{Way}
-use Rattle.walking.specs.Read.{Routes, Reads}
+use Rattle.walking.specs.Read.{Routes, ReadsRoute}
 use Rattle.walking.proofs.LegsOf.{legs-unique}
 use Rattle.walking.proofs.read_route.Reads as read-route
 
 module _ (m : Map) (Goal : ℕ → Type 0) (rank : ℕ → ℕ) (apart : (h k : ℕ) → h < 8 → k < 8 → rank h ≡ rank k → h ≡ k) (start : ℕ) (old : List ℕ) where
-  abbrev Route : Length → List Leg → Type 0
-  Route = Routes (stepsOf m) Goal rank start
+  abbrev RouteOf : Length → List Leg → Type 0
+  RouteOf = Routes (stepsOf m) Goal rank start
 
-  abbrev Answers : Reading → List ℕ → Type 0
-  Answers = Reads (stepsOf m) Goal rank start old
+  abbrev ReadAnswers : RouteReading → List ℕ → Type 0
+  ReadAnswers = ReadsRoute (stepsOf m) Goal rank start old
 
-  same-legs : {a b : Length} {ls ks : List Leg} → Route a ls → Route b ks → ls ≡ ks
+  same-legs : {a b : Length} {ls ks : List Leg} → RouteOf a ls → RouteOf b ks → ls ≡ ks
   same-legs {ks = ks} p q =
       legs-unique (p .legs-are) (subst (λ (hs : List ℕ). Legs hs ks) (sym (route-unique m rank apart (p .first) (q .first))) (q .legs-are))
 
-  same-length : {a b : Length} {ls ks : List Leg} → Route a ls → Route b ks → a ≡ b
+  same-length : {a b : Length} {ls ks : List Leg} → RouteOf a ls → RouteOf b ks → a ≡ b
   same-length p q = shortest-unique (p .first .route .short) (q .first .route .short)
 
   -- a route is a way
-  has-way : {a : Length} {ls : List Leg} → Route a ls → Reach (stepsOf m) Goal start a
+  has-way : {a : Length} {ls : List Leg} → RouteOf a ls → Reach (stepsOf m) Goal start a
   has-way r = let short = r .first .route .short in short .way
 
-  way-way : (w w′ : Way) (x x′ : List ℕ) → Answers (reading.Way w) x → Answers (reading.Way w′) x′ → (reading.Way w ≡ reading.Way w′) × (x ≡ x′)
+  way-way : (w w′ : Way) (x x′ : List ℕ) → ReadAnswers (reading.Way w) x → ReadAnswers (reading.Way w′) x′ → (reading.Way w ≡ reading.Way w′) × (x ≡ x′)
   way-way w w′ x x′ p q =
       let e = same-legs (p .route) (q .route) in
       let n : w .legs ≡ w′ .legs = p .count ∙ ap length e ∙ sym (q .count) in (
@@ -47,14 +47,15 @@ module _ (m : Map) (Goal : ℕ → Type 0) (rank : ℕ → ℕ) (apart : (h k : 
         p .written ∙ ap (λ (ls : List Leg). bytes ls ++ drop (2 * length ls) old) e ∙ sym (q .written),
       )
 
-  way-room : (w : Way) (n : ℕ) (x x′ : List ℕ) → Answers (reading.Way w) x → Answers (reading.NoRoom n) x′ → ⊥
+  way-room : (w : Way) (n : ℕ) (x x′ : List ℕ) → ReadAnswers (reading.Way w) x → ReadAnswers (reading.NoRoom n) x′ → ⊥
   way-room w n x x′ p q = omega (arith, p .room, q .short, ap length (same-legs (p .route) (q .route)))
 
-  room-room : (n n′ : ℕ) (x x′ : List ℕ) → Answers (reading.NoRoom n) x → Answers (reading.NoRoom n′) x′ → (reading.NoRoom n ≡ reading.NoRoom n′) × (x ≡ x′)
+  room-room : (n n′ : ℕ) (x x′ : List ℕ) → ReadAnswers (reading.NoRoom n) x → ReadAnswers (reading.NoRoom n′) x′
+      → (reading.NoRoom n ≡ reading.NoRoom n′) × (x ≡ x′)
   room-room n n′ x x′ p q =
       (ap reading.NoRoom (p .counted ∙ ap length (same-legs (p .route) (q .route)) ∙ sym (q .counted)), p .same ∙ sym (q .same))
 
-  pub reads-only : (r r′ : Reading) (x x′ : List ℕ) → Answers r x → Answers r′ x′ → (r ≡ r′) × (x ≡ x′)
+  pub reads-only : (r r′ : RouteReading) (x x′ : List ℕ) → ReadAnswers r x → ReadAnswers r′ x′ → (r ≡ r′) × (x ≡ x′)
   reads-only (reading.Way w) (reading.Way w′) x x′ p q = way-way w w′ x x′ p q
   reads-only (reading.Way w) reading.NoWay x x′ p q = absurd (q .none (w .length) (has-way (p .route)))
   reads-only (reading.Way w) (reading.NoRoom n) x x′ p q = absurd (way-room w n x x′ p q)

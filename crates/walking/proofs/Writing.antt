@@ -1,5 +1,4 @@
 -- Writing the legs ahead of a walker from the front of the leg buffer.
--- Assumes nothing.
 use mathlib.Core.Path.{_≡_, refl, ap, ap₂, sym, _∙_, subst}
 use mathlib.Core.List.{List, [], _∷_, _++_, append-assoc, append-nil}
 use Prim.Native.Nat.{ℕ, suc, _+_, _*_, _≤_, _<_}
@@ -12,13 +11,14 @@ use Rattle.floor.specs.Floor.{Map}
 use Rattle.walker.specs.declared.Walker.{Walker}
 use Rattle.walker.specs.declared.WalkedLeg.{WalkedLeg}
 use Rattle.walker.specs.Legs.{Leg, bytes}
-use Rattle.walker.specs.Reading.{Order, Stands, Leads}
-use Rattle.walking.specs.Ahead.{Ahead, Room, Written}
+use Rattle.steps.specs.Ranking.{Ranking}
+use Rattle.walker.specs.Walkers.{Stands, Leads}
+use Rattle.walking.specs.Ahead.{Ahead, LegRoom, LegsWritten}
 use Rattle.walking.proofs.LegsOf.{length-bytes}
 use Rattle.walking.proofs.LegsAhead.{leg-of, ahead-exists, ahead-leg, ahead-end}
 
 -- of the legs ls the first are written, in i bytes, and v stands after them
-pub record Part (m : Map) (t : List ℕ) (o : Order) (v : Walker) (i : ℕ) (old new : List ℕ) (ls : List Leg) (total : Length) : Type 0 where
+pub record PartWritten (m : Map) (t : List ℕ) (o : Ranking) (v : Walker) (i : ℕ) (old new : List ℕ) (ls : List Leg) (total : Length) : Type 0 where
   pub written : List Leg
   pub left : List Leg
   pub whole : ls ≡ written ++ left
@@ -27,13 +27,13 @@ pub record Part (m : Map) (t : List ℕ) (o : Order) (v : Walker) (i : ℕ) (old
   pub content : new ≡ bytes written ++ drop i old
 
 -- i bytes of the legs of w are written, and v stands after them
-pub record Writing (m : Map) (t : List ℕ) (o : Order) (w v : Walker) (i : ℕ) (old new : List ℕ) : Type 0 where
+pub record Writing (m : Map) (t : List ℕ) (o : Ranking) (w v : Walker) (i : ℕ) (old new : List ℕ) : Type 0 where
   -- v stands on the floor and knows its next heading
   pub stands : Stands m t o v
   -- the buffer keeps its length
   pub size : length new ≡ length old
   -- its first i bytes are the legs passed, and the others keep their values
-  pub part : (ls : List Leg) (total : Length) → Ahead m t o w ls total → Part m t o v i old new ls total
+  pub part : (ls : List Leg) (total : Length) → Ahead m t o w ls total → PartWritten m t o v i old new ls total
 
 put-two : (xs ys : List ℕ) (a b h n : ℕ) → set (set (xs ++ (a ∷ (b ∷ ys))) (length xs) h) (length xs + 1) n ≡ xs ++ (h ∷ (n ∷ ys))
 put-two [] ys a b h n = refl
@@ -52,7 +52,7 @@ two-off s i h =
     let e : i + 2 ≡ suc (suc i) = omega arith in
     drop-cons s i 0 a ∙ ap (λ (r : List ℕ). getD s i 0 ∷ r) (drop-cons s (suc i) 0 b) ∙ rw (e, add-one i)
 
-module _ (m : Map) (t : List ℕ) (o : Order) where
+module _ (m : Map) (t : List ℕ) (o : Ranking) where
   pub writing-start : (w : Walker) (old : List ℕ) → Stands m t o w → Writing m t o w w 0 old old
   writing-start w old s = record {
     stands = s;
@@ -61,7 +61,7 @@ module _ (m : Map) (t : List ℕ) (o : Order) where
   }
 
   room-left : (v : Walker) (i : ℕ) (old new : List ℕ) (r : WalkedLeg) → Leads m t o v r → (ls : List Leg) (total : Length)
-      → 2 * length ls ≤ length old → Part m t o v i old new ls total → i + 2 ≤ length old
+      → 2 * length ls ≤ length old → PartWritten m t o v i old new ls total → i + 2 ≤ length old
   room-left v i old new r d ls total room p =
       let (ks, e, b) = ahead-leg m t o v r d (p .left) total (p .ahead) in
       let n : length (p .left) ≡ suc (length ks) = ap length e in
@@ -69,13 +69,14 @@ module _ (m : Map) (t : List ℕ) (o : Order) where
       omega (arith, p .place)
 
   -- there is room for the next leg
-  pub writing-room : (w v : Walker) (i : ℕ) (old new : List ℕ) (r : WalkedLeg) → Room m t o w old → Writing m t o w v i old new → Leads m t o v r → i + 2 ≤ length new
+  pub writing-room : (w v : Walker) (i : ℕ) (old new : List ℕ) (r : WalkedLeg) → LegRoom m t o w old → Writing m t o w v i old new → Leads m t o v r
+      → i + 2 ≤ length new
   writing-room w v i old new r room g d =
       let (ls, total, a) = ahead-exists m t o w in
       omega (arith, g .size, room-left v i old new r d ls total (room ls total a) (g .part ls total a))
 
   -- one leg more
-  pub writing-more : (w v : Walker) (i : ℕ) (old now new : List ℕ) (r : WalkedLeg) → Room m t o w old → Writing m t o w v i old now → Leads m t o v r
+  pub writing-more : (w v : Walker) (i : ℕ) (old now new : List ℕ) (r : WalkedLeg) → LegRoom m t o w old → Writing m t o w v i old now → Leads m t o v r
       → new ≡ set (set now i (r .heading)) (i + 1) (r .count) → Writing m t o w (r .after) (i + 2) old new
   writing-more w v i old now new r room g d e = record {
     stands = d .going .stands;
@@ -83,7 +84,8 @@ module _ (m : Map) (t : List ℕ) (o : Order) where
     part = λ ls total a. by ls total (room ls total a) (g .part ls total a);
   }
     where
-      by : (ls : List Leg) (total : Length) → 2 * length ls ≤ length old → Part m t o v i old now ls total → Part m t o (r .after) (i + 2) old new ls total
+      by : (ls : List Leg) (total : Length) → 2 * length ls ≤ length old → PartWritten m t o v i old now ls total
+          → PartWritten m t o (r .after) (i + 2) old new ls total
       by ls total fit p =
           let (ks, f, b) = ahead-leg m t o v r d (p .left) total (p .ahead) in
           let xs = bytes (p .written) in
@@ -109,7 +111,7 @@ module _ (m : Map) (t : List ℕ) (o : Order) where
   writing-next w v k old new = let e : 2 * k + 2 ≡ 2 * (k + 1) = omega arith in subst (λ (i : ℕ). Writing m t o w v i old new) e
 
   -- at the goal all legs are written
-  pub writing-end : (w v : Walker) (i : ℕ) (old new : List ℕ) → Writing m t o w v i old new → 8 ≤ v .next → Written m t o w old new
+  pub writing-end : (w v : Walker) (i : ℕ) (old new : List ℕ) → Writing m t o w v i old new → 8 ≤ v .next → LegsWritten m t o w old new
   writing-end w v i old new g b ls total a =
       let p = g .part ls total a in
       let (f, u) = ahead-end m t o v (g .stands) b (p .left) total (p .ahead) in

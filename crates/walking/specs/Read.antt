@@ -1,5 +1,4 @@
 -- What reading a route from a table answers, and what it leaves in the leg buffer.
--- Assumes nothing.
 use mathlib.Core.Path.{_≡_}
 use mathlib.Core.List.{List, _++_}
 use Prim.Native.Nat.{ℕ, _*_, _≤_, _<_}
@@ -8,8 +7,8 @@ use Rattle.lengths.specs.declared.Length.{Length}
 use Rattle.steps.specs.Way.{Graph, Reach}
 use Rattle.walker.specs.Route.{FirstRoute}
 use Rattle.walker.specs.Legs.{Leg, Legs, bytes}
-use Rattle.walking.specs.declared.Reading.{Reading}
-use Rattle.walking.specs.declared.Reading.the-variants as reading
+use Rattle.walking.specs.declared.RouteReading.{RouteReading}
+use Rattle.walking.specs.declared.RouteReading.the-variants as reading
 use Rattle.walking.specs.declared.Way.{Way}
 
 -- the first route from start to the goal, with its length and its legs
@@ -18,7 +17,8 @@ pub record Routes (G : Graph) (Goal : ℕ → Type 0) (rank : ℕ → ℕ) (star
   pub first : FirstRoute G Goal rank start headings size
   pub legs-are : Legs headings legs
 
--- a way: its length, its leg count, and its legs from the front of the buffer; bytes after the last leg keep their values
+-- a way: its length, its leg count, and its legs from the front of the buffer; bytes after the last leg keep their
+-- values
 pub record Found (G : Graph) (Goal : ℕ → Type 0) (rank : ℕ → ℕ) (start : ℕ) (old : List ℕ) (w : Way) (new : List ℕ) : Type 0 where
   pub legs : List Leg
   pub route : Routes G Goal rank start (w .length) legs
@@ -40,7 +40,7 @@ pub record NoRoom (G : Graph) (Goal : ℕ → Type 0) (rank : ℕ → ℕ) (star
   pub short : length old < 2 * length legs
   pub same : new ≡ old
 
-abbrev pub Reads : (G : Graph) (Goal : ℕ → Type 0) (rank : ℕ → ℕ) (start : ℕ) (old : List ℕ) → Reading → (new : List ℕ) → Type 0
-Reads G Goal rank start old (reading.Way w) new = Found G Goal rank start old w new
-Reads G Goal rank start old reading.NoWay new = NoWay G Goal start old new
-Reads G Goal rank start old (reading.NoRoom n) new = NoRoom G Goal rank start old n new
+abbrev pub ReadsRoute : (G : Graph) (Goal : ℕ → Type 0) (rank : ℕ → ℕ) (start : ℕ) (old : List ℕ) → RouteReading → (new : List ℕ) → Type 0
+ReadsRoute G Goal rank start old (reading.Way w) new = Found G Goal rank start old w new
+ReadsRoute G Goal rank start old reading.NoWay new = NoWay G Goal start old new
+ReadsRoute G Goal rank start old (reading.NoRoom n) new = NoRoom G Goal rank start old n new

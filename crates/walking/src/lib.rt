@@ -8,14 +8,13 @@ ghost use Rattle.floor.specs.Inner.{Sound};
 ghost use Rattle.steps.specs.Step.{stepsOf};
 ghost use Rattle.steps.specs.Way.{Only};
 ghost use Rattle.entries.specs.Filled.{Filled};
-ghost use Rattle.walker.specs.Reading.{numbered, Readable, Stands, Starts};
-ghost use Rattle.walking.specs.Read.{Reads};
-ghost use Rattle.walking.specs.Ahead.{Counted, Room, Wanted, Written};
+ghost use Rattle.steps.specs.Ranking.{numbered};
+ghost use Rattle.walker.specs.Walkers.{Readable, Stands, Starts};
+ghost use Rattle.walking.specs.Read.{ReadsRoute};
+ghost use Rattle.walking.specs.Ahead.{Counted, LegRoom, Wanted, LegsWritten};
+use entries::MARK;
 use lengths::Length;
 use walker::Walker;
-
-// The mark: the entry of a cell without a way to the goal.
-const MARK: u32 = 4294967295;
 
 // A way: its length and how many legs it has.
 pub struct Way {
@@ -24,7 +23,7 @@ pub struct Way {
 }
 
 // What reading a route answers: a way, no way, or the leg count where the leg buffer is too short for it.
-pub enum Reading {
+pub enum RouteReading {
     Way(Way),
     NoWay,
     NoRoom(usize),
@@ -57,7 +56,8 @@ fn put_leg(legs: &mut [u8], at: usize, heading: usize, count: usize)
     legs[at + 1] = count as u8;
 }
 
-// The legs ahead, written from the front; bytes after the last leg keep their values. They are counted, and their length is summed, as in `count_legs`.
+// The legs ahead, written from the front; bytes after the last leg keep their values. They are counted, and their
+// length is summed, as in `count_legs`.
 fn write_legs(
     start: Walker,
     width: usize,
@@ -69,9 +69,9 @@ fn write_legs(
     requires { ⌜ Sound (mapOf width height (now map)) ⌝ }
     requires { ⌜ Readable (mapOf width height (now map)) (now table) ⌝ }
     requires { ⌜ Stands (mapOf width height (now map)) (now table) numbered start ⌝ }
-    requires { ⌜ Room (mapOf width height (now map)) (now table) numbered start (now legs) ⌝ }
+    requires { ⌜ LegRoom (mapOf width height (now map)) (now table) numbered start (now legs) ⌝ }
     ensures { λ r. ⌜ Counted (mapOf width height (now (map .entry))) (now (table .entry)) numbered start r ⌝ }
-    ensures { λ _. ⌜ Written (mapOf width height (now (map .entry))) (now (table .entry)) numbered start (now (legs .entry)) (now (legs .exit)) ⌝ }
+    ensures { λ _. ⌜ LegsWritten (mapOf width height (now (map .entry))) (now (table .entry)) numbered start (now (legs .entry)) (now (legs .exit)) ⌝ }
 {
     let mut walker = start;
     let mut count: usize = 0;
@@ -95,7 +95,8 @@ fn steps_of(entry: u32) -> usize
     (entry / 65536 + entry % 65536) as usize
 }
 
-// How many legs a buffer of so many bytes is to be tested for: none if it has two bytes for each step, which is enough; else those ahead, which are counted.
+// How many legs a buffer of so many bytes is to be tested for: none if it has two bytes for each step, which is enough;
+// else those ahead, which are counted.
 fn legs_wanted(
     walker: Walker,
     width: usize,
@@ -120,7 +121,8 @@ fn legs_wanted(
     way.legs
 }
 
-// The first route from start to the goal, read from a table that keeps its promise. The goal is the table's: only the promise names it.
+// The first route from start to the goal, read from a table that keeps its promise. The goal is the table's: only the
+// promise names it.
 pub fn read_route(
     width: usize,
     height: usize,
@@ -129,20 +131,20 @@ pub fn read_route(
     start: usize,
     goal: usize,
     legs: &mut [u8],
-) -> Reading
+) -> RouteReading
     requires { ⌜ Sound (mapOf width height (now map)) ⌝ }
     requires { ⌜ (start < height * width) × (goal < height * width) ⌝ }
     requires { ⌜ Filled (stepsOf (mapOf width height (now map))) (Only goal) (height * width) (now table) ⌝ }
-    ensures { λ r. ⌜ Reads (stepsOf (mapOf width height (now (map .entry)))) (Only goal) (λ h. h) start (now (legs .entry)) r (now (legs .exit)) ⌝ }
+    ensures { λ r. ⌜ ReadsRoute (stepsOf (mapOf width height (now (map .entry)))) (Only goal) (λ h. h) start (now (legs .entry)) r (now (legs .exit)) ⌝ }
 {
     if table[start] == MARK {
-        return Reading::NoWay;
+        return RouteReading::NoWay;
     }
     let walker = walker::stand(width, height, map, table, start);
     let wanted = legs_wanted(walker, width, height, map, table, start, goal, legs.len());
     if legs.len() < 2 * wanted {
-        return Reading::NoRoom(wanted);
+        return RouteReading::NoRoom(wanted);
     }
     let way = write_legs(walker, width, height, map, table, &mut *legs);
-    Reading::Way(way)
+    RouteReading::Way(way)
 }

@@ -2,7 +2,7 @@
 use mathlib.Core.Path.{_≡_, refl, ap, ap₂, _∙_}
 use Prim.Native.Nat.{ℕ, zero, suc, _+_, _-_, _*_, _/_, _%_, _≤_, _<_}
 use native.Mathlib.Omega.{arith}
-use Rattle.lengths.proofs.Keys.{straightKey, key}
+use Rattle.lengths.specs.Keys.{straightKey, key}
 use Rattle.steps.specs.Heading.{weight, byParity}
 use Rattle.offers.specs.Work.{span, extra, raise, lateOf, stepped}
 use Rattle.offers.proofs.Numbers.{late-bit, late-rest, early-rest, straight, diagonal}

@@ -1,15 +1,16 @@
--- What the waves leave is what the neighbours make each cell, and so the shortest lengths. A number that was found stands for a length, since
--- its support does and a step adds its key; that no step would lower a number says, by the keys that numbers stand for and in whose order they
--- are, that no neighbour offers less.
+-- What the waves leave is what the neighbours make each cell, and so the shortest lengths. A number that was found
+-- stands for a length, since its support does and a step adds its key; that no step would lower a number says, by the
+-- keys that numbers stand for and in whose order they are, that no neighbour offers less.
 use mathlib.Core.Path.{_≡_, ap, ap₂, sym, subst, subst₂, _∙_}
 use mathlib.Core.Logic.{_⊎_, inl, inr}
 use mathlib.Core.List.{List}
-use Prim.Native.Nat.{ℕ, zero, suc, _+_, _-_, _*_, _/_, _%_, _≤_, _<_}
+use Prim.Native.Nat.{ℕ, zero, suc, _+_, _-_, _/_, _%_, _≤_, _<_}
 use native.Mathlib.Omega.{arith}
 use native.Mathlib.Nat.{le-refl}
 use Rattle.lengths.specs.declared.Length.{Length}
 use Rattle.lengths.specs.Order.{zeroLength, _⊕_, _⊑_}
-use Rattle.lengths.proofs.Keys.{straightKey, diagonalKey, key, key-order, pair, pair-back}
+use Rattle.lengths.specs.Keys.{straightKey, diagonalKey, key, pair}
+use Rattle.lengths.proofs.Keys.{key-order, pair-back}
 use Rattle.steps.specs.Heading.{weight}
 use Rattle.steps.proofs.Grid.{Floor, graph, step-back, same-weight, cell, cell-column, cell-row}
 use Rattle.steps.proofs.Headings.{opposite}
@@ -17,10 +18,10 @@ use Rattle.entries.specs.Entry.{Entry, mark, long}
 use Rattle.entries.specs.Filled.{Says}
 use Rattle.entries.specs.Made.{Least, Made}
 use Rattle.entries.proofs.Neighbours.{no-mark, long-inj, sound}
-use Rattle.offers.specs.Work.{unreached, stride, atGoal, stepped, at, spot, WorkStep}
-use Rattle.passes.specs.Solved.{Found, Solved}
+use Rattle.offers.specs.Work.{unreached, atGoal, stepped, at, spot, WorkStep}
+use Rattle.passes.specs.Solved.{ReachedBy, Solved}
 use Rattle.storing.specs.Entries.{keyOf, goalKey, entryOf, InWave, Keyed}
-use Rattle.storing.proofs.NumberKinds.{Kind, shut, waits, reached, kind}
+use Rattle.storing.proofs.NumberKinds.{NumberKind, shut, waits, reached, kind}
 use Rattle.offers.proofs.Numbers.{like, stretch}
 use Rattle.waves.proofs.Adds.{steps-add, key-monotone}
 use Rattle.waves.proofs.OnWork.{Mapped, placeOf, narrow, to-work, from-work, opens}
@@ -31,7 +32,7 @@ module _ (floor x : List ℕ) (s : Solved floor x) where
   keyed-below zero z b o f = absurd (omega arith)
   keyed-below (suc n) z b o f = by (s .support z o f) (keyed-below n)
     where
-      by : (at floor z ≡ atGoal) ⊎ Found floor x z (at x z) → ((y : ℕ) → at x y ≤ n → 0 < at x y → at x y < unreached → Keyed (at x y)) → Keyed (at x z)
+      by : (at floor z ≡ atGoal) ⊎ ReachedBy floor x z (at x z) → ((y : ℕ) → at x y ≤ n → 0 < at x y → at x y < unreached → Keyed (at x y)) → Keyed (at x z)
       by (inl e) ih =
           let start = s .start z e in
           record { size = zeroLength; sum = ap keyOf start; in-wave = record { low = omega arith; high = omega arith } }
@@ -74,7 +75,7 @@ module _ (f : Floor) (wide : 0 < f .width) (floor x : List ℕ) (m : Mapped f fl
   at-goal : (y : ℕ) → Goal y → T y ≡ long zeroLength
   at-goal y e = ap entryOf (s .start (place y) (goals .has y e)) ∙ by (kind atGoal)
     where
-      by : Kind atGoal → entryOf atGoal ≡ long zeroLength
+      by : NumberKind atGoal → entryOf atGoal ≡ long zeroLength
       by (shut e p) = absurd (omega arith)
       by (waits e p) = absurd (omega arith)
       by (reached o k p) = p
@@ -93,7 +94,7 @@ module _ (f : Floor) (wide : 0 < f .width) (floor x : List ℕ) (m : Mapped f fl
   marks : (y : ℕ) → (at x (place y) ≡ 0) ⊎ (unreached ≤ at x (place y)) → Least (graph f) T y mark
   marks y v h z u = by (kind (at x (place z))) v
     where
-      by : Kind (at x (place z)) → (at x (place y) ≡ 0) ⊎ (unreached ≤ at x (place y)) → T z ≡ mark
+      by : NumberKind (at x (place z)) → (at x (place y) ≡ 0) ⊎ (unreached ≤ at x (place y)) → T z ≡ mark
       by (shut e p) v = p
       by (waits e p) v = p
       by (reached o k p) (inl e) = absurd (omega (arith, s .free (place y) (there h y z u .from)))
@@ -103,7 +104,7 @@ module _ (f : Floor) (wide : 0 < f .width) (floor x : List ℕ) (m : Mapped f fl
       → Least (graph f) T y (long (pair (keyOf (at x (place y)) - goalKey)))
   lengths y other o k = (some (s .support (place y) o k), all)
     where
-      some : (at floor (place y) ≡ atGoal) ⊎ Found floor x (place y) (at x (place y))
+      some : (at floor (place y) ≡ atGoal) ⊎ ReachedBy floor x (place y) (at x (place y))
           → (h : ℕ) × (z : ℕ) × (n : Length) × (graph f) .Step h y z × (T z ≡ long n) × (pair (keyOf (at x (place y)) - goalKey) ≡ n ⊕ weight h)
       some (inl e) = absurd (other (goals .alone y e))
       some (inr u) =
@@ -136,7 +137,7 @@ module _ (f : Floor) (wide : 0 < f .width) (floor x : List ℕ) (m : Mapped f fl
               → T z ≡ long n
           reads z o k n e = by (kind (at x (place z)))
             where
-              by : Kind (at x (place z)) → T z ≡ long n
+              by : NumberKind (at x (place z)) → T z ≡ long n
               by (shut d p) = absurd (omega arith)
               by (waits d p) = absurd (omega arith)
               by (reached d b p) = p ∙ ap long (read floor x s (place z) k n e)
@@ -144,7 +145,7 @@ module _ (f : Floor) (wide : 0 < f .width) (floor x : List ℕ) (m : Mapped f fl
       all : (h z : ℕ) (n : Length) → (graph f) .Step h y z → T z ≡ long n → pair (keyOf (at x (place y)) - goalKey) ⊑ n ⊕ weight h
       all h z n u e = by (kind (at x (place z)))
         where
-          by : Kind (at x (place z)) → pair (keyOf (at x (place y)) - goalKey) ⊑ n ⊕ weight h
+          by : NumberKind (at x (place z)) → pair (keyOf (at x (place y)) - goalKey) ⊑ n ⊕ weight h
           by (shut d p) = absurd (no-mark (sym e ∙ p))
           by (waits d p) = absurd (no-mark (sym e ∙ p))
           by (reached d b p) =
@@ -159,7 +160,7 @@ module _ (f : Floor) (wide : 0 < f .width) (floor x : List ℕ) (m : Mapped f fl
   made : (y : ℕ) → Made (graph f) Goal T y (T y)
   made y = record { at-goal = at-goal y; elsewhere = λ other. by other (kind (at x (place y))) }
     where
-      by : ¬ Goal y → Kind (at x (place y)) → Least (graph f) T y (T y)
+      by : ¬ Goal y → NumberKind (at x (place y)) → Least (graph f) T y (T y)
       by other (shut e p) = subst (Least (graph f) T y) (sym p) (marks y (inl e))
       by other (waits e p) = subst (Least (graph f) T y) (sym p) (marks y (inr e))
       by other (reached o k p) = subst (Least (graph f) T y) (sym p) (lengths y other o k)

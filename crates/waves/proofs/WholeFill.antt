@@ -1,9 +1,10 @@
--- From the map to the table: the loaded work array is the floor, so what the waves leave is the shortest lengths, and what is stored says so.
+-- From the map to the table: the loaded work array is the floor, so what the waves leave is the shortest lengths, and
+-- what is stored says so.
 use mathlib.Core.Path.{_≡_, refl, ap, ap₂, sym, subst, subst₂, _∙_}
 use mathlib.Core.Logic.{_⊎_, inl, inr}
 use mathlib.Core.Bool.{Bool, true, false}
 use mathlib.Core.List.{List, [], _∷_}
-use Prim.Native.Nat.{ℕ, zero, suc, _+_, _-_, _*_, _/_, _%_, _≤_, _<_}
+use Prim.Native.Nat.{ℕ, suc, _+_, _-_, _*_, _/_, _%_, _≤_, _<_}
 use native.Mathlib.Omega.{arith}
 use native.Mathlib.Nat.{mod-lt, mul-le-mul, zero-add}
 use lib.ListN.{getD, length, set, length-set, replicate, length-replicate, getD-replicate, List·getD-eq-default}
@@ -12,18 +13,19 @@ use lib.Seq.{getD-set-same}
 use lib.Dec.{T as Holds}
 use borrow.Author.Tests.{lt-ltb}
 use Rattle.floor.specs.Floor.{Map, open?, cells}
+use Rattle.floor.specs.Inner.{Ready}
 use Rattle.steps.specs.Leading.{openPast}
 use Rattle.steps.specs.Step.{stepsOf}
 use Rattle.steps.specs.Way.{Only}
 use Rattle.steps.proofs.Leads.{open-column, open-row, floor, Past, past}
 use Rattle.entries.specs.Filled.{Filled}
 use Rattle.entries.proofs.Lists.{getD-any, each}
-use Rattle.offers.specs.Work.{unreached, stride, largest, atGoal, at, spot, Inside}
+use Rattle.offers.specs.Work.{unreached, stride, largest, atGoal, at, spot, OffBorder}
 use Rattle.passes.specs.Solved.{Loaded, Goals, Solved}
 use Rattle.loading.specs.Load.{numberOf, loaded, Prefix}
 use Rattle.entries.specs.Written.{Written}
 use Rattle.storing.specs.Entries.{entryOf, AllSettled, entryOfCell}
-use Rattle.waves.specs.Fill.{Fillable, Scratch}
+use Rattle.waves.specs.Fill.{Scratch}
 use Rattle.offers.proofs.Changed.{waiting-set}
 use Rattle.waves.proofs.OnWork.{Mapped, placeOf, same-cell}
 use Rattle.waves.proofs.Shortest.{keyed, GoalNumbers, says}
@@ -51,7 +53,7 @@ loaded-spot m c r k =
     let r′ : suc r - 1 ≡ r = omega arith in
     ap₂ (λ (u v : ℕ). numberOf (openPast m u v)) e f ∙ rw (lt-ltb 0 (suc c) (omega arith), lt-ltb 0 (suc r) (omega arith), c′, r′)
 
-module _ (m : Map) (goal entries : ℕ) (a : Fillable m goal entries) (x : List ℕ) (p : Prefix m 0 (m .height) x) where
+module _ (m : Map) (goal entries : ℕ) (a : Ready m goal entries) (x : List ℕ) (p : Prefix m 0 (m .height) x) where
   abbrev g : ℕ
   g = spot (goal % m .width) (goal / m .width)
 
@@ -59,21 +61,21 @@ module _ (m : Map) (goal entries : ℕ) (a : Fillable m goal entries) (x : List 
   x′ = set x g atGoal
 
   gc : goal % m .width < m .width
-  gc = mod-lt goal (a .sound .some-wide)
+  gc = mod-lt goal (a .fitting .sound .some-wide)
 
   gr : goal / m .width < m .height
   gr = open-row m (goal % m .width) (goal / m .width) (a .chosen .free)
 
   pub goal-on : g < length x
-  goal-on = omega (arith, p .tall, gc, gr, a .sound .wide)
+  goal-on = omega (arith, p .tall, gc, gr, a .fitting .sound .wide)
 
   loaded-value : (z : ℕ) → at x z ≡ loaded m z
-  loaded-value = prefix-all m (a .sound) x p
+  loaded-value = prefix-all m (a .fitting .sound) x p
 
   -- an open cell waits
   waits : (c r : ℕ) → Holds (open? m c r) → at x (spot c r) ≡ unreached
   waits c r o =
-      let n = a .sound .wide in
+      let n = a .fitting .sound .wide in
       let k = open-column m c r o in
       loaded-value (spot c r) ∙ loaded-spot m c r (omega arith) ∙ holds-number (open? m c r) o
 
@@ -89,18 +91,18 @@ module _ (m : Map) (goal entries : ℕ) (a : Fillable m goal entries) (x : List 
 
       at-goal : Past m (g % stride) (g / stride)
       at-goal =
-          let n = a .sound .wide in
+          let n = a .fitting .sound .wide in
           let k = gc in
           let e : goal % m .width ≡ g % stride - 1 = omega arith in
           let f : goal / m .width ≡ g / stride - 1 = omega arith in
           record { column = omega arith; row = omega arith; «open» = subst₂ (λ (u v : ℕ). Holds (open? m u v)) e f (a .chosen .free) }
 
-  border : (z : ℕ) → 0 < at x′ z → Inside x′ z
+  border : (z : ℕ) → 0 < at x′ z → OffBorder x′ z
   border z o =
       let q = behind z o in
       let c = open-column m _ _ (q .«open») in
       let r = open-row m _ _ (q .«open») in
-      let n = a .sound .wide in
+      let n = a .fitting .sound .wide in
       record { low = omega (arith, q .column, q .row); high = omega (arith, q .column, q .row, p .tall, length-set x g atGoal) }
 
   kinds : (z : ℕ) → (at x z ≡ 0) ⊎ (at x z ≡ unreached)
@@ -110,9 +112,9 @@ module _ (m : Map) (goal entries : ℕ) (a : Fillable m goal entries) (x : List 
   pub ready : (q : List ℕ) → length x ≤ largest → length q ≡ entries → Loaded x′ q
   ready q few size = record {
     few = omega (arith, length-set x g atGoal);
-    small = omega (arith, a .table, mul-le-mul (a .sound .high) (a .sound .wide));
+    small = omega (arith, a .fitting .size, mul-le-mul (a .fitting .sound .high) (a .fitting .sound .wide));
     enough =
-        omega (arith, a .table, p .few, waiting-set x g atGoal goal-on, waits (goal % m .width) (goal / m .width) (a .chosen .free));
+        omega (arith, a .fitting .size, p .few, waiting-set x g atGoal goal-on, waits (goal % m .width) (goal / m .width) (a .chosen .free));
     kinds = each 0 x g atGoal goal-on (λ z v. (v ≡ atGoal) ⊎ ((v ≡ 0) ⊎ (v ≡ unreached))) (inl refl) (λ z e. inr (kinds z));
     border = border;
   }
@@ -136,13 +138,14 @@ module _ (m : Map) (goal entries : ℕ) (a : Fillable m goal entries) (x : List 
   goal-numbers = record {
     told = λ y. ℕ-discrete y goal;
     has = λ y e. ap (λ (c : ℕ). at x′ (placeOf (floor m) c)) e ∙ getD-set-same x g atGoal 0 goal-on;
-    alone = λ y e. same-cell (floor m) (a .sound .some-wide) (a .sound .wide) y goal (alone _ e);
+    alone = λ y e. same-cell (floor m) (a .fitting .sound .some-wide) (a .fitting .sound .wide) y goal (alone _ e);
   }
 
   mapped : Mapped (floor m) x′
   mapped = record {
-    narrow = a .sound .wide;
-    free = λ c r o. each 0 x g atGoal goal-on (λ z v. z ≡ spot c r → 0 < v) (λ e. omega arith) (λ z d e. omega (arith, ap (at x) e, waits c r o)) (spot c r) refl;
+    narrow = a .fitting .sound .wide;
+    free = λ c r o. each 0 x g atGoal goal-on (λ z v. z ≡ spot c r → 0 < v) (λ e. omega arith) (λ z d e. omega (arith, ap (at x) e, waits c r o))
+        (spot c r) refl;
     column = λ z o. z % stride - 1;
     row = λ z o. z / stride - 1;
     opened = λ z o. behind z o .«open»;
@@ -152,8 +155,8 @@ module _ (m : Map) (goal entries : ℕ) (a : Fillable m goal entries) (x : List 
   module _ (x″ : List ℕ) (s : Solved x′ x″) where
     pub settled : AllSettled (m .width) (m .height) x″
     settled = record {
-      wide = a .sound .wide;
-      high = a .sound .high;
+      wide = a .fitting .sound .wide;
+      high = a .fitting .sound .high;
       tall = omega (arith, p .tall, s .cells, length-set x g atGoal);
       all = λ z. record { keyed = keyed x′ x″ s z; below = s .below z };
     }
@@ -161,12 +164,12 @@ module _ (m : Map) (goal entries : ℕ) (a : Fillable m goal entries) (x : List 
     pub filled :
         (q t : List ℕ) → Written (entryOfCell (m .width) x″) 0 (cells m) q t → length q ≡ entries → Filled (stepsOf m) (Only goal) (cells m) t
     filled q t w same = record {
-      size = w .size ∙ same ∙ a .table;
+      size = w .size ∙ same ∙ a .fitting .size;
       entries = λ y k. record {
         what = entryOf (at x″ (spot (y % m .width) (y / m .width)));
-        says = says (floor m) (a .sound .some-wide) x′ x″ mapped (Only goal) goal-numbers s y;
+        says = says (floor m) (a .fitting .sound .some-wide) x′ x″ mapped (Only goal) goal-numbers s y;
         same =
-            getD-any t y 4294967295 0 (omega (arith, w .size, same, a .table)) ∙ ap (λ (n : ℕ). getD t n 0) (sym (zero-add y)) ∙ w .inside y k;
+            getD-any t y 4294967295 0 (omega (arith, w .size, same, a .fitting .size)) ∙ ap (λ (n : ℕ). getD t n 0) (sym (zero-add y)) ∙ w .inside y k;
       };
     }
 

@@ -1,14 +1,13 @@
-// Filling a length table by waves, from the map's bytes to the table's entries: the map is loaded into a work array, all waves are passed, and
-// the numbers that they leave are stored as entries.
-ghost use mathlib.Core.Path.{_≡_};
-ghost use Prim.Native.Nat.{_*_, _≤_};
+// Filling a length table by waves, from the map's bytes to the table's entries: the map is loaded into a work array,
+// all waves are passed, and the numbers that they leave are stored as entries.
+ghost use Prim.Native.Nat.{_≤_};
 ghost use lib.ListN.{length};
 ghost use Rattle.floor.specs.Floor.{mapOf, cells};
-ghost use Rattle.floor.specs.Inner.{Sound};
+ghost use Rattle.floor.specs.Inner.{Ready};
 ghost use Rattle.steps.specs.Step.{stepsOf};
 ghost use Rattle.steps.specs.Way.{Only};
 ghost use Rattle.entries.specs.Filled.{Filled};
-ghost use Rattle.waves.specs.Fill.{OpenGoal, Fillable, Scratch};
+ghost use Rattle.waves.specs.Fill.{Scratch};
 
 // The rows that the small scratch has room for, and the places of the small and of the large scratch.
 const LOW: usize = 18;
@@ -27,7 +26,7 @@ fn fill_in(
     table: &mut [u32],
 )
     requires { ⌜ Scratch (mapOf width height (now map)) (now work) ⌝ }
-    requires { ⌜ Fillable (mapOf width height (now map)) goal (length (now table)) ⌝ }
+    requires { ⌜ Ready (mapOf width height (now map)) goal (length (now table)) ⌝ }
     ensures { λ r. ⌜ Filled (stepsOf (mapOf width height (now (map .entry)))) (Only goal) (cells (mapOf width height (now (map .entry)))) (now (table .exit)) ⌝ }
 {
     loading::load_map(work, width, height, map);
@@ -41,7 +40,7 @@ fn fill_in(
 // Fills the table of a floor of up to 18 rows.
 fn fill_low(width: usize, height: usize, map: &[u8], goal: usize, table: &mut [u32])
     requires { ⌜ height ≤ 18 ⌝ }
-    requires { ⌜ Fillable (mapOf width height (now map)) goal (length (now table)) ⌝ }
+    requires { ⌜ Ready (mapOf width height (now map)) goal (length (now table)) ⌝ }
     ensures { λ r. ⌜ Filled (stepsOf (mapOf width height (now (map .entry)))) (Only goal) (cells (mapOf width height (now (map .entry)))) (now (table .exit)) ⌝ }
 {
     let mut work = [0u32; SMALL];
@@ -50,7 +49,7 @@ fn fill_low(width: usize, height: usize, map: &[u8], goal: usize, table: &mut [u
 
 // Fills the table of any floor.
 fn fill_any(width: usize, height: usize, map: &[u8], goal: usize, table: &mut [u32])
-    requires { ⌜ Fillable (mapOf width height (now map)) goal (length (now table)) ⌝ }
+    requires { ⌜ Ready (mapOf width height (now map)) goal (length (now table)) ⌝ }
     ensures { λ r. ⌜ Filled (stepsOf (mapOf width height (now (map .entry)))) (Only goal) (cells (mapOf width height (now (map .entry)))) (now (table .exit)) ⌝ }
 {
     let mut work = [0u32; LARGE];
@@ -59,9 +58,7 @@ fn fill_any(width: usize, height: usize, map: &[u8], goal: usize, table: &mut [u
 
 // Fills the table: each entry is the shortest length from its cell to the goal, or the mark.
 pub fn fill_table(width: usize, height: usize, map: &[u8], goal: usize, table: &mut [u32])
-    requires { ⌜ Sound (mapOf width height (now map)) ⌝ }
-    requires { ⌜ OpenGoal (mapOf width height (now map)) goal ⌝ }
-    requires { ⌜ length (now table) ≡ height * width ⌝ }
+    requires { ⌜ Ready (mapOf width height (now map)) goal (length (now table)) ⌝ }
     ensures { λ r. ⌜ Filled (stepsOf (mapOf width height (now (map .entry)))) (Only goal) (cells (mapOf width height (now (map .entry)))) (now (table .exit)) ⌝ }
 {
     if height <= LOW {

@@ -1,5 +1,4 @@
 -- `checking::first_wrong` meets its contract: the window is made of walls.
--- Assumes nothing.
 use mathlib.Core.Path.{refl}
 use borrow.Author.Needs.{needs}
 use Rattle.checking.proofs.Windows.{walls}
@@ -7,7 +6,9 @@ use Rattle.checking.proofs.first_wrong.Statement.{statement}
 use Rattle.checking.proofs.first_wrong.Tie as tie
 
 judge-rows-requires : tie.Need-judge-rows-requires
-judge-rows-requires c κs = (c .before .before .before .pre, walls 390 refl)
+judge-rows-requires c κs =
+    let start : tie.Start = search in
+    (start .pre, walls 390 refl)
 
 returns : tie.Need-returns
 returns c = search needs

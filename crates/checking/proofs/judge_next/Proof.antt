@@ -1,5 +1,5 @@
--- `checking::judge_next` meets its contract: the window shows the row between its neighbours, where the cell of a column differs exactly if it is not right.
--- Assumes nothing.
+-- `checking::judge_next` meets its contract: the window shows the row between its neighbours, where the cell of a
+-- column differs exactly if it is not right.
 use native.Mathlib.Omega.{arith}
 use borrow.Author.Needs.{needs}
 use Rattle.floor.proofs.Reading.{small}
@@ -16,21 +16,28 @@ next-row-requires c κs = search needs
 
 mul-goal-column : tie.Need-mul-goal-column
 mul-goal-column c =
-    let s = c .before .before .before .before in
-    omega (arith, small (s .args .row) (s .args .width) (omega arith) (s .pre .0 .sound .wide))
+    let start : tie.Start = search in
+    omega (arith, small (start .args .row) (start .args .width) (omega arith) (start .pre .0 .fitting .sound .wide))
 
 goal-column-requires : tie.Need-goal-column-requires
-goal-column-requires c κs = let s = c .before .before .before .before in goal-low _ (s .args .table .now) _ (s .pre .0)
+goal-column-requires c κs =
+    let start : tie.Start = search in
+    goal-low _ (start .args .table .now) _ (start .pre .0)
 
 judge-row-requires : tie.Need-judge-row-requires
 judge-row-requires c κs =
-    let p = c .before .before .before .before .before .before .pre in
-    (p .0 .sound .wide, window-low _ _ _ _ (whole _ _ _ (p .0) _ _ _ (p .1 .0) (p .1 .1) (c .before .before .next-row .ensures)))
+    let start : tie.Start = search in
+    let at-next-row : tie.After-next-row = search in
+    let p = start .pre in
+    (p .0 .fitting .sound .wide, window-low _ _ _ _ (whole _ _ _ (p .0) _ _ _ (p .1 .0) (p .1 .1) (at-next-row .next-row .ensures)))
 
 returns : tie.Need-returns
 returns c =
-    let p = c .before .before .before .before .before .before .before .pre in
-    row-judged _ _ _ (p .0) _ _ _ (p .1 .0) (p .1 .1) (c .before .before .before .next-row .ensures) _ _ (c .before .before .goal-column .ensures) (c .judge-row .ensures)
+    let start : tie.Start = search in
+    let at-next-row : tie.After-next-row = search in
+    let at-goal-column : tie.After-goal-column = search in
+    let p = start .pre in
+    row-judged _ _ _ (p .0) _ _ _ (p .1 .0) (p .1 .1) (at-next-row .next-row .ensures) _ _ (at-goal-column .goal-column .ensures) (c .judge-row .ensures)
 
 pub judge-next-spec : {M : Type 1} → statement M
 judge-next-spec =

@@ -6,8 +6,6 @@ use native.Mathlib.Omega.{arith}
 use borrow.Author.Needs.{needs}
 use Rattle.lengths.proofs.nearest.Statement.{statement}
 use Rattle.lengths.proofs.nearest.Tie as tie
-use Rattle.lengths.proofs.nearest.Reads as reads
-use Rattle.lengths.proofs.nearest.Lts as lts
 
 abbrev Inv-loop : tie.InvT-loop
 Inv-loop m eight low₀ high₀ low high =

@@ -1,22 +1,23 @@
--- `lengths::test_parts` meets its contract: each way out rewrites by the tests that led there.
--- Assumes nothing.
+-- `lengths::test_parts` meets its contract: each way out is the test of its comparison.
+use mathlib.Core.Path.{_∙_, ap}
+use borrow.Author.Needs.{needs}
 use borrow.Author.Tests.{lt-ltb, le-ltb}
+use Rattle.given.specs.Refusing.{refuse}
 use Rattle.lengths.specs.Answers.{partAbove}
-use Rattle.lengths.specs.Inner.{partsOf}
 use Rattle.lengths.proofs.test_parts.Statement.{statement}
 use Rattle.lengths.proofs.test_parts.Tie as tie
 
-returns : tie.Need-returns
-unfolding partsOf partAbove
-returns c = simp (lt-ltb _ _ (c .if1 .taken))
+first : tie.Need-returns
+unfolding partAbove
+first c =
+    let i : tie.Then1 = search in
+    c .refuse-if .ensures ∙ ap (refuse _) (simp (lt-ltb _ _ (i .if1 .taken)))
 
-returns-2 : tie.Need-returns-2
-unfolding partsOf partAbove
-returns-2 c = simp (le-ltb _ _ (c .before .before .if1 .left), lt-ltb _ _ (c .if2 .taken))
-
-returns-3 : tie.Need-returns-3
-unfolding partsOf partAbove
-returns-3 c = simp (le-ltb _ _ (c .before .before .if1 .left), le-ltb _ _ (c .if2 .left))
+second : tie.Need-returns-2
+unfolding partAbove
+second c =
+    let i : tie.Else1 = search in
+    c .refuse-if2 .ensures ∙ ap (refuse _) (simp (le-ltb _ _ (i .if1 .left)))
 
 pub test-parts-spec : {M : Type 1} → statement M
-test-parts-spec = tie.close (tie.spec returns returns-2 returns-3)
+test-parts-spec = tie.close (tie.spec (λ c κs. search needs) first (λ c κs. search needs) second)

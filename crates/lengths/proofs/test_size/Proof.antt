@@ -1,22 +1,23 @@
--- `lengths::test_size` meets its contract: each way out rewrites by the tests that led there.
--- Assumes nothing.
+-- `lengths::test_size` meets its contract: each way out is the test of its comparison.
+use mathlib.Core.Path.{_∙_, ap}
+use borrow.Author.Needs.{needs}
 use borrow.Author.Tests.{lt-ltb, le-ltb}
+use Rattle.given.specs.Refusing.{refuse}
 use Rattle.lengths.specs.Answers.{sizeOutside}
-use Rattle.lengths.specs.Inner.{sizeOf}
 use Rattle.lengths.proofs.test_size.Statement.{statement}
 use Rattle.lengths.proofs.test_size.Tie as tie
 
-returns : tie.Need-returns
-unfolding sizeOf sizeOutside
-returns c = simp (lt-ltb _ _ (c .if1 .taken))
+first : tie.Need-returns
+unfolding sizeOutside
+first c =
+    let i : tie.Then1 = search in
+    c .refuse-if .ensures ∙ ap (refuse _) (simp (lt-ltb _ _ (i .if1 .taken)))
 
-returns-2 : tie.Need-returns-2
-unfolding sizeOf sizeOutside
-returns-2 c = simp (le-ltb _ _ (c .before .if1 .left), lt-ltb _ _ (c .if2 .taken))
-
-returns-3 : tie.Need-returns-3
-unfolding sizeOf sizeOutside
-returns-3 c = simp (le-ltb _ _ (c .before .if1 .left), le-ltb _ _ (c .if2 .left))
+second : tie.Need-returns-2
+unfolding sizeOutside
+second c =
+    let i : tie.Else1 = search in
+    c .refuse-if2 .ensures ∙ ap (refuse _) (simp (le-ltb _ _ (i .if1 .left)))
 
 pub test-size-spec : {M : Type 1} → statement M
-test-size-spec = tie.close (tie.spec returns returns-2 returns-3)
+test-size-spec = tie.close (tie.spec (λ c κs. search needs) first (λ c κs. search needs) second)

@@ -1,22 +1,24 @@
--- `printing::put_one` meets its contract: the number, then the newline.
--- Assumes nothing.
+-- `lines::put_one` meets its contract: the number, then the newline.
 use native.Mathlib.Omega.{arith}
 use Rattle.text.proofs.Lines.{begin, end}
 use borrow.Author.Needs.{needs}
 use Rattle.lines.proofs.put_one.Statement.{statement}
 use Rattle.lines.proofs.put_one.Tie as tie
 
-put-number-requires : tie.Need-put-number-requires
-put-number-requires c κs = search needs
-
-put-newline-requires : tie.Need-put-newline-requires
-put-newline-requires c κs = search needs
-
-same-length : tie.Need-same-length
-same-length c = search needs
-
-returns : tie.Need-returns
-returns c = record { put = end (begin (c .before .before .before .before .before .before .put-number .ensures .0)) (c .before .before .put-newline .ensures); fits = omega (arith, c .before .before .before .before .before .before .put-number .ensures .1, c .before .before .put-newline .ensures .follows) }
+written : tie.Need-returns
+written c =
+    let n : tie.After-put-number = search in
+    let l : tie.After-put-newline = search in
+    record {
+      put = end (begin (n .put-number .ensures .0)) (l .put-newline .ensures);
+      fits = omega (arith, n .put-number .ensures .1, l .put-newline .ensures .follows);
+    }
 
 pub put-one-spec : {M : Type 1} → statement M
-put-one-spec = tie.close (tie.spec put-number-requires put-newline-requires same-length returns)
+put-one-spec =
+    tie.close
+    (tie.spec
+    (λ c κs. search needs)
+    (λ c κs. search needs)
+    (λ c. search needs)
+    written)

@@ -1,27 +1,26 @@
--- `printing::put_two` meets its contract: the first number, the field after it, then the newline.
--- Assumes nothing.
+-- `lines::put_two` meets its contract: the first number, the field after it, then the newline.
 use native.Mathlib.Omega.{arith}
 use Rattle.text.proofs.Lines.{begin, then-field, end}
 use borrow.Author.Needs.{needs}
 use Rattle.lines.proofs.put_two.Statement.{statement}
 use Rattle.lines.proofs.put_two.Tie as tie
 
-put-number-requires : tie.Need-put-number-requires
-put-number-requires c κs = search needs
-
-put-field-requires : tie.Need-put-field-requires
-put-field-requires c κs = search needs
-
-put-newline-requires : tie.Need-put-newline-requires
-put-newline-requires c κs = search needs
-
-same-length : tie.Need-same-length
-same-length c = search needs
-
-returns : tie.Need-returns
-returns c = record { put = end (then-field _ (begin (c .before .before .before .before .before .before .before .before .before .before .put-number .ensures .0)) (c .before .before .before .before .before .before .put-field .ensures .0)) (c .before .before .put-newline .ensures); fits = omega (arith, c .before .before .before .before .before .before .before .before .before .before .put-number .ensures .1, c .before .before .before .before .before .before .put-field .ensures .1, c .before .before .put-newline .ensures .follows) }
+written : tie.Need-returns
+written c =
+    let n : tie.After-put-number = search in
+    let m : tie.After-put-field = search in
+    let l : tie.After-put-newline = search in
+    record {
+      put = end (then-field _ (begin (n .put-number .ensures .0)) (m .put-field .ensures .0)) (l .put-newline .ensures);
+      fits = omega (arith, n .put-number .ensures .1, m .put-field .ensures .1, l .put-newline .ensures .follows);
+    }
 
 pub put-two-spec : {M : Type 1} → statement M
 put-two-spec =
     tie.close
-    (tie.spec put-number-requires put-field-requires put-newline-requires same-length returns)
+    (tie.spec
+    (λ c κs. search needs)
+    (λ c κs. search needs)
+    (λ c κs. search needs)
+    (λ c. search needs)
+    written)

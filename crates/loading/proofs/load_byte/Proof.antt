@@ -1,5 +1,4 @@
 -- `loading::load_byte` meets its contract. The invariant: the cells of the byte's first i bits are loaded.
--- Assumes nothing.
 use Prim.Native.Nat.{_-_}
 use native.Mathlib.Omega.{arith}
 use borrow.Author.Needs.{needs}
@@ -19,13 +18,19 @@ add-byte : tie.Need-add-byte Inv-loop μ-loop
 add-byte c = search needs
 
 mul-byte : tie.Need-mul-byte Inv-loop μ-loop
-mul-byte c = omega (arith, byte-inside _ (c .before .before .pre .0 .sound) _ _ _ (c .before .before .pre .0))
+mul-byte c =
+    let start : tie.Start Inv-loop μ-loop = search in
+    omega (arith, byte-inside _ (start .pre .0 .sound) _ _ _ (start .pre .0))
 
 add-byte-2 : tie.Need-add-byte-2 Inv-loop μ-loop
-add-byte-2 c = omega (arith, byte-inside _ (c .before .before .pre .0 .sound) _ _ _ (c .before .before .pre .0))
+add-byte-2 c =
+    let start : tie.Start Inv-loop μ-loop = search in
+    omega (arith, byte-inside _ (start .pre .0 .sound) _ _ _ (start .pre .0))
 
 shared-slice-read-byte : tie.Need-shared-slice-read-byte Inv-loop μ-loop
-shared-slice-read-byte c = byte-inside _ (c .before .before .before .pre .0 .sound) _ _ _ (c .before .before .before .pre .0)
+shared-slice-read-byte c =
+    let start : tie.Start Inv-loop μ-loop = search in
+    byte-inside _ (start .pre .0 .sound) _ _ _ (start .pre .0)
 
 add-first : tie.Need-add-first Inv-loop μ-loop
 add-first c = search needs
@@ -40,27 +45,34 @@ add-first-3 : tie.Need-add-first-3 Inv-loop μ-loop
 add-first-3 c = search needs
 
 loop-holds : tie.Need-loop-holds Inv-loop μ-loop
-loop-holds c = bits-none _ _ _ _ _ (c .before .before .before .pre .0) (c .before .before .before .pre .1 .0)
+loop-holds c =
+    let start : tie.Start Inv-loop μ-loop = search in
+    bits-none _ _ _ _ _ (start .pre .0) (start .pre .1 .0)
 
 number-of-requires : tie.Need-number-of-requires Inv-loop μ-loop
 number-of-requires c κs =
-    let p = c .before .before .before .before .before .pre in
+    let start : tie.Start Inv-loop μ-loop = search in
+    let p = start .pre in
     (omega (arith, c .loop-test .taken, p .0 .few), p .1 .1)
 
 add-work : tie.Need-add-work Inv-loop μ-loop
 add-work c =
-    let r = c .before .before .before .before .before .before .pre .0 in
+    let start : tie.Start Inv-loop μ-loop = search in
+    let r = start .pre .0 in
     omega (arith, c .before .loop-test .taken, r .few, r .row, r .column, r .sound .wide, r .sound .high)
 
 mul-work : tie.Need-mul-work Inv-loop μ-loop
 mul-work c =
-    let r = c .before .before .before .before .before .before .pre .0 in
+    let start : tie.Start Inv-loop μ-loop = search in
+    let r = start .pre .0 in
     omega (arith, c .before .loop-test .taken, r .few, r .row, r .column, r .sound .wide, r .sound .high)
 
 slice-write-work : tie.Need-slice-write-work Inv-loop μ-loop
 slice-write-work c =
-    let r = c .before .before .before .before .before .before .pre .0 in
-    let i = c .before .before .loop .inv .cells in
+    let start : tie.Start Inv-loop μ-loop = search in
+    let top : tie.At-loop Inv-loop μ-loop = search in
+    let r = start .pre .0 in
+    let i = top .loop .inv .cells in
     omega (arith, c .before .loop-test .taken, r .inside, r .row, r .sound .wide, i .prefix .tall .rows)
 
 add-i : tie.Need-add-i Inv-loop μ-loop
@@ -71,9 +83,10 @@ loop-less c = omega (arith, c .before .loop-test .taken)
 
 loop-again : tie.Need-loop-again Inv-loop μ-loop
 loop-again c =
-    let r = c .before .before .before .before .before .before .pre .0 in
-    let turn = c .before in
-    bits-more _ (r .sound) _ _ _ _ _ _ _ r (turn .before .loop .inv) (turn .loop-test .taken) (c .number-of .ensures)
+    let start : tie.Start Inv-loop μ-loop = search in
+    let top : tie.At-loop Inv-loop μ-loop = search in
+    let r = start .pre .0 in
+    bits-more _ (r .sound) _ _ _ _ _ _ _ r (top .loop .inv) (c .before .loop-test .taken) (c .number-of .ensures)
 
 same-length : tie.Need-same-length Inv-loop μ-loop
 same-length c = c .before .loop .inv .cells .size

@@ -1,5 +1,4 @@
 -- `loading::load_map` meets its contract. The invariant: the rows before this one are loaded.
--- Assumes nothing.
 use mathlib.Core.Path.{refl, _∙_}
 use Prim.Native.Nat.{_-_}
 use native.Mathlib.Omega.{arith}
@@ -17,29 +16,40 @@ abbrev μ-loop : tie.MeasureT-loop
 μ-loop work₀ width height map fours row₀ work row = height - row
 
 loop-holds : tie.Need-loop-holds Inv-loop μ-loop
-loop-holds c = record { inside = omega arith; size = refl; prefix = c .before .before .pre .1 }
+loop-holds c =
+    let start : tie.Start Inv-loop μ-loop = search in
+    record { inside = omega arith; size = refl; prefix = start .pre .1 }
 
 load-row-requires : tie.Need-load-row-requires Inv-loop μ-loop
 load-row-requires c κs =
-    let turn = c .before .before in (
-      turn .before .before .before .before .pre .0,
-      (turn .loop-test .taken, (turn .before .loop .inv .prefix, fours-of _ refl refl)),
+    let start : tie.Start Inv-loop μ-loop = search in
+    let top : tie.At-loop Inv-loop μ-loop = search in
+    let turn : tie.In-loop Inv-loop μ-loop = search in (
+      start .pre .0,
+      (turn .loop-test .taken, (top .loop .inv .prefix, fours-of _ refl refl)),
     )
 
 add-row : tie.Need-add-row Inv-loop μ-loop
-add-row c = omega (arith, c .before .before .before .before .before .loop-test .taken)
+add-row c =
+    let turn : tie.In-loop Inv-loop μ-loop = search in
+    omega (arith, turn .loop-test .taken)
 
 loop-less : tie.Need-loop-less Inv-loop μ-loop
-loop-less c = omega (arith, c .before .before .before .before .before .loop-test .taken)
+loop-less c =
+    let turn : tie.In-loop Inv-loop μ-loop = search in
+    omega (arith, turn .loop-test .taken)
 
 loop-again : tie.Need-loop-again Inv-loop μ-loop
 loop-again c =
-    let turn = c .before .before .before .before .before in
-    let l = c .before .before .load-row in
+    let start : tie.Start Inv-loop μ-loop = search in
+    let top : tie.At-loop Inv-loop μ-loop = search in
+    let turn : tie.In-loop Inv-loop μ-loop = search in
+    let at-load-row : tie.After-load-row Inv-loop μ-loop = search in
+    let l = at-load-row .load-row in
     record {
       inside = omega (arith, turn .loop-test .taken);
-      size = l .kept .0 ∙ turn .before .loop .inv .size;
-      prefix = prefix-row _ (turn .before .before .before .before .pre .0) _ _ (l .ensures);
+      size = l .kept .0 ∙ top .loop .inv .size;
+      prefix = prefix-row _ (start .pre .0) _ _ (l .ensures);
     }
 
 same-length : tie.Need-same-length Inv-loop μ-loop

@@ -1,5 +1,4 @@
 -- `loading::number_of` meets its contract: the cell's number is read off the table, by its byte's four bits.
--- Assumes nothing.
 use borrow.Author.Needs.{needs}
 use Rattle.loading.proofs.Fours.{number-read}
 use Rattle.loading.proofs.number_of.Statement.{statement}

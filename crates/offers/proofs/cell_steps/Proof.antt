@@ -1,5 +1,5 @@
--- `offers::cell_steps` meets its contract. The invariant: the steps with the headings before this one were taken, and the mask that is kept is
--- that of the side cell behind.
+-- `offers::cell_steps` meets its contract. The invariant: the steps with the headings before this one were taken, and
+-- the mask that is kept is that of the side cell behind.
 use mathlib.Core.Path.{_≡_, refl, _∙_}
 use Prim.Native.Nat.{_-_}
 use native.Mathlib.Omega.{arith}
@@ -35,15 +35,19 @@ side-step-requires : tie.Need-side-step-requires Inv-loop μ-loop
 side-step-requires c κs = search needs
 
 loop-holds : tie.Need-loop-holds Inv-loop μ-loop
-loop-holds c = (headings-none _ _ _ _ _ _ (c .before .before .before .before .side-step .ensures .offer .room), refl)
+loop-holds c =
+    let at-side-step : tie.After-side-step Inv-loop μ-loop = search in
+    (headings-none _ _ _ _ _ _ (at-side-step .side-step .ensures .offer .room), refl)
 
 side-after-requires : tie.Need-side-after-requires Inv-loop μ-loop
 side-after-requires c κs =
-    let turn = c .before .before in
-    let first = turn .before .before .before .before .before .before in
-    let p = first .before .before .before .before .before .before .before .pre in
-    let i = turn .before .loop .inv .0 in
-    let n = made-size _ _ _ _ _ _ _ _ (first .side-step .ensures .offer) in
+    let start : tie.Start Inv-loop μ-loop = search in
+    let at-side-step : tie.After-side-step Inv-loop μ-loop = search in
+    let top : tie.At-loop Inv-loop μ-loop = search in
+    let turn : tie.In-loop Inv-loop μ-loop = search in
+    let p = start .pre in
+    let i = top .loop .inv .0 in
+    let n = made-size _ _ _ _ _ _ _ _ (at-side-step .side-step .ensures .offer) in
     (record { low = p .0 .low; high = omega (arith, p .0 .high, i .size, n) }, (i .room, (turn .loop-test .taken, omega (arith, p .1 .0))))
 
 place-of-requires : tie.Need-place-of-requires Inv-loop μ-loop
@@ -54,13 +58,15 @@ past-requires c κs = search needs
 
 offer-requires : tie.Need-offer-requires Inv-loop μ-loop
 offer-requires c κs =
-    let call = c .before .before .before .before .before .before .before .before in
-    let turn = call .before .before .before in
-    let first = turn .before .before .before .before .before .before in
-    let l = in-work _ _ _ (turn .loop-test .taken) (first .before .before .before .before .before .before .before .pre .0) in
-    let n = made-size _ _ _ _ _ _ _ _ (first .side-step .ensures .offer) in
-    let s = call .side-after .ensures in
-    (omega (arith, c .before .place-of .ensures, l, n, turn .before .loop .inv .0 .size, s .size), s .room)
+    let start : tie.Start Inv-loop μ-loop = search in
+    let at-side-step : tie.After-side-step Inv-loop μ-loop = search in
+    let top : tie.At-loop Inv-loop μ-loop = search in
+    let at-side-after : tie.After-side-after Inv-loop μ-loop = search in
+    let turn = at-side-after .before .before .before in
+    let l = in-work _ _ _ (turn .loop-test .taken) (start .pre .0) in
+    let n = made-size _ _ _ _ _ _ _ _ (at-side-step .side-step .ensures .offer) in
+    let s = at-side-after .side-after .ensures in
+    (omega (arith, c .before .place-of .ensures, l, n, top .loop .inv .0 .size, s .size), s .room)
 
 add-heading : tie.Need-add-heading Inv-loop μ-loop
 add-heading c = search needs
@@ -70,22 +76,32 @@ loop-less c = search needs
 
 loop-again : tie.Need-loop-again Inv-loop μ-loop
 loop-again c =
-    let made = c .before .before .before .before in
-    let call = made .before .before .before .before .before .before .before .before .before in
-    let turn = call .before .before .before in (
-      headings-more _ _ _ _ _ _ _ _ _ _ _ (turn .before .loop .inv .0) (turn .loop-test .taken) _ refl _ _ _ _ (call .side-after .ensures) _ _ _ _ _ _
-          (turn .before .before .before .before .before .before .before .before .before .diagonal-of .ensures) (made .before .past .ensures) (made .before .before .place-of .ensures) (made .offer .ensures),
-      omega (arith, made .offer .kept .1, call .side-after .kept .1, turn .before .loop .inv .1),
+    let at-diagonal-of : tie.After-diagonal-of Inv-loop μ-loop = search in
+    let top : tie.At-loop Inv-loop μ-loop = search in
+    let at-place-of : tie.After-place-of Inv-loop μ-loop = search in
+    let at-side-after = at-place-of .before .before .before .before .before .before .before in
+    let turn = at-side-after .before .before .before in
+    let at-past : tie.After-past Inv-loop μ-loop = search in
+    let at-offer : tie.After-offer Inv-loop μ-loop = search in (
+      headings-more _ _ _ _ _ _ _ _ _ _ _ (top .loop .inv .0) (turn .loop-test .taken) _ refl _ _ _ _ (at-side-after .side-after .ensures) _ _ _ _ _ _
+          (at-diagonal-of .diagonal-of .ensures) (at-past .past .ensures) (at-place-of .place-of .ensures) (at-offer .offer .ensures),
+      omega (arith, at-offer .offer .kept .1, at-side-after .side-after .kept .1, top .loop .inv .1),
     )
 
 same-length : tie.Need-same-length Inv-loop μ-loop
-same-length c = c .before .loop .inv .0 .size ∙ made-size _ _ _ _ _ _ _ _ (c .before .before .before .before .before .before .side-step .ensures .offer)
+same-length c =
+    let at-side-step : tie.After-side-step Inv-loop μ-loop = search in
+    c .before .loop .inv .0 .size ∙ made-size _ _ _ _ _ _ _ _ (at-side-step .side-step .ensures .offer)
 
 same-length-2 : tie.Need-same-length-2 Inv-loop μ-loop
-same-length-2 c = omega (arith, c .before .loop .inv .1, c .before .before .before .before .before .before .side-step .kept .1)
+same-length-2 c =
+    let at-side-step : tie.After-side-step Inv-loop μ-loop = search in
+    omega (arith, c .before .loop .inv .1, at-side-step .side-step .kept .1)
 
 returns : tie.Need-returns Inv-loop μ-loop
-returns c = headings-all _ _ _ _ _ _ _ _ _ _ _ _ _ _ _ refl refl (c .before .before .before .before .before .before .side-step .ensures) (c .before .loop .inv .0) (c .loop-test .left)
+returns c =
+    let at-side-step : tie.After-side-step Inv-loop μ-loop = search in
+    headings-all _ _ _ _ _ _ _ _ _ _ _ _ _ _ _ refl refl (at-side-step .side-step .ensures) (c .before .loop .inv .0) (c .loop-test .left)
 
 pub cell-steps-spec : {M : Type 1} → statement M
 cell-steps-spec =

@@ -1,5 +1,4 @@
 -- `offers::diagonal_of` meets its contract: late cells and no others have the gap to leave out.
--- Assumes nothing.
 use mathlib.Core.Path.{refl}
 use native.Mathlib.Omega.{arith}
 use borrow.Author.Needs.{needs}

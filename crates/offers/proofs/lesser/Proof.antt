@@ -1,5 +1,4 @@
 -- `offers::lesser` meets its contract.
--- Assumes nothing.
 use native.Mathlib.Omega.{arith}
 use Rattle.offers.proofs.lesser.Statement.{statement}
 use Rattle.offers.proofs.lesser.Tie as tie

@@ -1,5 +1,4 @@
 -- `offers::lower` meets its contract: the lesser number is stored, and the place is put behind the queue.
--- Assumes nothing.
 use mathlib.Core.Path.{refl, ap}
 use Prim.Native.Nat.{ℕ}
 use lib.ListN.{set}
@@ -39,7 +38,8 @@ same-length-2 c = search needs
 
 returns : tie.Need-returns
 returns c =
-    let a = c .before .before .before .before .args in
+    let start : tie.Start = search in
+    let a = start .args in
     record { cells = ap (λ (z : ℕ). set (a .work .now) (a .place) z) (c .lesser .ensures); queue = refl; before = refl }
 
 pub lower-spec : {M : Type 1} → statement M

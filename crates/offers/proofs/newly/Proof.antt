@@ -1,5 +1,4 @@
 -- `offers::newly` meets its contract: the `xor` of two numbers of 32 digits has the first digit 1 where theirs differ.
--- Assumes nothing.
 use mathlib.Core.Path.{_≡_, refl, _∙_}
 use Prim.Native.Nat.{ℕ, zero, suc, _-_, _*_, _/_, _≤_, _<_}
 use native.Mathlib.Omega.{arith}

@@ -1,5 +1,4 @@
 -- `offers::offer` meets its contract: the queue grows where the cell was not reached and now is.
--- Assumes nothing.
 use mathlib.Core.Path.{ap}
 use Prim.Native.Nat.{ℕ, _/_}
 use native.Mathlib.Omega.{arith}
@@ -29,9 +28,10 @@ same-length-2 c = search needs
 
 returns : tie.Need-returns
 returns c =
-    let call = c .before .before .before .before .before .before in
+    let start : tie.Start = search in
+    let at-lower : tie.After-lower = search in
     let least = ap (λ (z : ℕ). z / unreached) (c .before .lesser .ensures) in
-    lowered-made _ _ _ _ _ _ _ _ _ (call .before .before .before .before .before .pre .1) (call .lower .ensures)
+    lowered-made _ _ _ _ _ _ _ _ _ (start .pre .1) (at-lower .lower .ensures)
     (omega (arith, c .newly .ensures .0, least))
 
 pub offer-spec : {M : Type 1} → statement M

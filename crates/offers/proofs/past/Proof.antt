@@ -1,14 +1,13 @@
 -- `offers::past` meets its contract: an `or` is not below what it is of, and 0 adds nothing to it.
--- Assumes nothing.
 use mathlib.Core.Path.{ap₂, _∙_}
 use Prim.Native.Nat.{ℕ}
 use native.Mathlib.Omega.{arith}
 use lib.Bits.{bitOr, or-zero-r, or-add-and, and-le-l, and-le-r}
-use Rattle.offers.specs.Taken.{Past}
+use Rattle.offers.specs.Taken.{PastSides}
 use Rattle.offers.proofs.past.Statement.{statement}
 use Rattle.offers.proofs.past.Tie as tie
 
-or-past : (n a b : ℕ) → Past n a b (bitOr n (bitOr a b))
+or-past : (n a b : ℕ) → PastSides n a b (bitOr n (bitOr a b))
 or-past n a b =
     let whole = or-add-and n (bitOr a b) in
     let sides = or-add-and a b in

@@ -1,5 +1,4 @@
 -- `offers::side_after` meets its contract: after the last diagonal heading nothing is done.
--- Assumes nothing.
 use mathlib.Core.Path.{refl}
 use native.Mathlib.Omega.{arith}
 use borrow.Author.Needs.{needs}
@@ -8,12 +7,14 @@ use Rattle.offers.proofs.side_after.Statement.{statement}
 use Rattle.offers.proofs.side_after.Tie as tie
 
 returns : tie.Need-returns
-returns c = record {
-  room = c .before .before .before .pre .1 .0;
-  size = refl;
-  step = λ l. absurd (omega (arith, c .if1 .taken));
-  last = λ e. (refl, refl, refl, refl);
-}
+returns c =
+    let start : tie.Start = search in
+    record {
+      room = start .pre .1 .0;
+      size = refl;
+      step = λ l. absurd (omega (arith, c .if1 .taken));
+      last = λ e. (refl, refl, refl, refl);
+    }
 
 add-side-step : tie.Need-add-side-step
 add-side-step c = search needs
@@ -29,13 +30,14 @@ same-length-2 c = search needs
 
 returns-2 : tie.Need-returns-2
 returns-2 c =
-    let call = c .before .before .before .before in
-    let s = call .side-step .ensures in
+    let else1 : tie.Else1 = search in
+    let at-side-step : tie.After-side-step = search in
+    let s = at-side-step .side-step .ensures in
     record {
       room = s .offer .room;
       size = made-size _ _ _ _ _ _ _ _ (s .offer);
       step = λ l. s;
-      last = λ e. absurd (call .before .before .before .if1 .left e);
+      last = λ e. absurd (else1 .if1 .left e);
     }
 
 pub side-after-spec : {M : Type 1} → statement M

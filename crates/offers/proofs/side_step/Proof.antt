@@ -1,4 +1,5 @@
--- `offers::side_step` meets its contract: the heading leads to a place of the array, and the number counts, so a cell that was not reached now is.
+-- `offers::side_step` meets its contract: the heading leads to a place of the array, and the number counts, so a cell
+-- that was not reached now is.
 use mathlib.Core.Path.{_≡_, subst}
 use mathlib.Core.List.{List}
 use Prim.Native.Nat.{ℕ}
@@ -16,9 +17,10 @@ place-of-requires c κs = search needs
 
 lower-requires : tie.Need-lower-requires
 lower-requires c κs =
-    let to = c .before .before in
-    let p = to .before .before .before .pre in
-    (omega (arith, to .place-of .ensures, in-work _ _ _ (p .1 .1 .0) (p .0)), p .1 .0)
+    let start : tie.Start = search in
+    let at-place-of : tie.After-place-of = search in
+    let p = start .pre in
+    (omega (arith, at-place-of .place-of .ensures, in-work _ _ _ (p .1 .1 .0) (p .0)), p .1 .0)
 
 cast-t14 : tie.Need-cast-t14
 cast-t14 c = search needs
@@ -45,11 +47,12 @@ named p h a n v t x q x′ q′ t′ r e f made m = record {
 
 returns : tie.Need-returns
 returns c =
-    let call = c .before .before .before .before .before in
-    let to = call .before .before .before in
-    let p = to .before .before .before .pre .1 in
-    let l = call .lower .ensures in
-    named _ _ _ _ _ _ _ _ _ _ _ _ (to .place-of .ensures) (l .before)
+    let start : tie.Start = search in
+    let at-place-of : tie.After-place-of = search in
+    let at-lower : tie.After-lower = search in
+    let p = start .pre .1 in
+    let l = at-lower .lower .ensures in
+    named _ _ _ _ _ _ _ _ _ _ _ _ (at-place-of .place-of .ensures) (l .before)
     (lowered-made _ _ _ _ _ _ _ _ _ (p .0) l (omega (arith, p .1 .1))) (c .mask-of .ensures)
 
 pub side-step-spec : {M : Type 1} → statement M

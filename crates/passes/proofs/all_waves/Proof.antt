@@ -1,5 +1,5 @@
--- `passes::all_waves` meets its contract. The invariant: what holds between waves, of the floor that was loaded before the goal's places
--- took their steps. No wave is empty, so there are no more waves than cells.
+-- `passes::all_waves` meets its contract. The invariant: what holds between waves, of the floor that was loaded before
+-- the goal's places took their steps. No wave is empty, so there are no more waves than cells.
 use mathlib.Core.Path.{_≡_, refl}
 use mathlib.Core.List.{List}
 use Prim.Native.Nat.{ℕ, _-_}

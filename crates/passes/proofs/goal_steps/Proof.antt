@@ -5,7 +5,7 @@ use native.Mathlib.Omega.{arith}
 use lib.ListN.{getD, length}
 use borrow.Author.Needs.{needs}
 use Rattle.passes.specs.Pass.{StepsDone}
-use Rattle.passes.specs.Solved.{Loaded, Goals, goalWave}
+use Rattle.passes.specs.Solved.{Loaded, goalWave}
 use Rattle.passes.proofs.FirstWave.{still, in-wave}
 use Rattle.passes.proofs.OnePass.{CanStep, steps-none, can-step, one-more, steps-all}
 use Rattle.passes.proofs.goal_steps.Statement.{statement}

@@ -1,5 +1,5 @@
--- `passes::one_wave` meets its contract: its fresh cells are parted, and those that waited and the ready ones take their steps.
--- Assumes nothing.
+-- `passes::one_wave` meets its contract: its fresh cells are parted, and those that waited and the ready ones take
+-- their steps.
 use native.Mathlib.Omega.{arith}
 use borrow.Author.Needs.{needs}
 use Rattle.passes.proofs.OnePass.{places, steps-begun, pass-left}
@@ -7,12 +7,16 @@ use Rattle.passes.proofs.one_wave.Statement.{statement}
 use Rattle.passes.proofs.one_wave.Tie as tie
 
 ready-first-requires : tie.Need-ready-first-requires
-ready-first-requires c κs = let p = c .before .before .before .before .pre in places (p .wave) _ _ _ _ _ (p .ready)
+ready-first-requires c κs =
+    let start : tie.Start = search in
+    let p = start .pre in places (p .wave) _ _ _ _ _ (p .ready)
 
 ready-steps-requires : tie.Need-ready-steps-requires
 ready-steps-requires c κs =
-    let call = c .before .before .before .before .ready-first in
-    steps-begun _ _ _ _ _ _ _ _ (call .ensures) (omega (arith, call .kept .1)) (c .before .before .before .before .before .before .before .before .before .pre)
+    let start : tie.Start = search in
+    let at-ready-first : tie.After-ready-first = search in
+    let call = at-ready-first .ready-first in
+    steps-begun _ _ _ _ _ _ _ _ (call .ensures) (omega (arith, call .kept .1)) (start .pre)
 
 same-length : tie.Need-same-length
 same-length c = search needs
@@ -22,8 +26,10 @@ same-length-2 c = search needs
 
 returns : tie.Need-returns
 returns c =
-    let call = c .before .before .before .before .before .before .before .before .before .ready-first in
-    pass-left _ _ _ _ _ _ _ _ (call .ensures) (omega (arith, call .kept .1)) _ _ _ (c .before .before .before .before .ready-steps .ensures)
+    let at-ready-first : tie.After-ready-first = search in
+    let at-ready-steps : tie.After-ready-steps = search in
+    let call = at-ready-first .ready-first in
+    pass-left _ _ _ _ _ _ _ _ (call .ensures) (omega (arith, call .kept .1)) _ _ _ (at-ready-steps .ready-steps .ensures)
 
 pub one-wave-spec : {M : Type 1} → statement M
 one-wave-spec =

@@ -1,5 +1,4 @@
 -- `passes::ready_first` meets its contract. The invariant: the cells before i are parted.
--- Assumes nothing.
 use mathlib.Core.Path.{_≡_, refl}
 use Prim.Native.Nat.{_-_, _≤_}
 use native.Mathlib.Omega.{arith}
@@ -43,11 +42,14 @@ add-i : tie.Need-add-i Inv-loop μ-loop
 add-i c = let k = first (c .before .before) in omega (arith, k .index, k .narrow)
 
 loop-holds : tie.Need-loop-holds Inv-loop μ-loop
-loop-holds c = let a = c .before .before .before .before .before .pre in (
-  parted-one _ _ _ _ _ (c .ready .ensures),
-  omega (arith, a .order, c .before .before .if1 .left),
-  refl,
-)
+loop-holds c =
+    let start : tie.Start Inv-loop μ-loop = search in
+    let else1 : tie.Else1 Inv-loop μ-loop = search in
+    let a = start .pre in (
+      parted-one _ _ _ _ _ (c .ready .ensures),
+      omega (arith, a .order, else1 .if1 .left),
+      refl,
+    )
 
 -- the cell at i can be read and swapped
 safe :
@@ -87,18 +89,23 @@ ready-requires-2 : tie.Need-ready-requires-2 Inv-loop μ-loop
 ready-requires-2 c κs = safe (c .before .before) .cell
 
 add-top-2 : tie.Need-add-top-2 Inv-loop μ-loop
-add-top-2 c = let k = safe (c .before .before .before) in omega (arith, k .place, k .narrow, c .ready2 .ensures .most)
+add-top-2 c =
+    let turn : tie.In-loop Inv-loop μ-loop = search in
+    let k = safe (turn) in omega (arith, k .place, k .narrow, c .ready2 .ensures .most)
 
 add-i-2 : tie.Need-add-i-2 Inv-loop μ-loop
-add-i-2 c = let k = safe (c .before .before .before) in omega (arith, k .index, k .narrow)
+add-i-2 c =
+    let turn : tie.In-loop Inv-loop μ-loop = search in
+    let k = safe (turn) in omega (arith, k .index, k .narrow)
 
 loop-less : tie.Need-loop-less Inv-loop μ-loop
 loop-less c = search needs
 
 loop-again : tie.Need-loop-again Inv-loop μ-loop
 loop-again c =
-    let turn = c .before .before .before in
-    let i = turn .before .loop .inv in (
+    let top : tie.At-loop Inv-loop μ-loop = search in
+    let turn : tie.In-loop Inv-loop μ-loop = search in
+    let i = top .loop .inv in (
       parted-step _ _ _ _ _ _ _ _ (i .0) (safe turn .index) (c .ready2 .ensures),
       omega arith,
       simp length-set (i .2),

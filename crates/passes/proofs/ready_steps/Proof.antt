@@ -1,4 +1,5 @@
--- `passes::ready_steps` meets its contract. The invariant: the cells before i have taken their steps, in every wave whose cells they are.
+-- `passes::ready_steps` meets its contract. The invariant: the cells before i have taken their steps, in every wave
+-- whose cells they are.
 use mathlib.Core.Path.{_≡_, refl, sym, _∙_}
 use mathlib.Core.List.{List}
 use Prim.Native.Nat.{ℕ, _-_, _≤_, _<_}

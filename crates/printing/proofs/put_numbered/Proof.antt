@@ -1,8 +1,8 @@
 -- `printing::put_numbered` meets its contract: the query is the one with this number, and its line the line with it.
--- Assumes nothing.
 use mathlib.Core.Path.{refl}
+use Prim.Native.Nat.{_+_, _-_, _*_, _≤_}
 use native.Mathlib.Omega.{arith}
-use lib.ListN.{length-take}
+use lib.ListN.{length, length-take}
 use Rattle.printing.specs.Inner.{Opened}
 use Rattle.printing.proofs.HeadLines.{head-opened, query-in, map-in, map-is, size-inside, floor-sound, cells-few, numbered}
 use borrow.Author.Needs.{needs}
@@ -13,78 +13,69 @@ use Rattle.printing.proofs.put_numbered.Tie as tie
 opened : (c : tie.Start) → Opened (c .args .input .now) (c .args .plan)
 opened c = head-opened (c .pre .1 .0) _ refl
 
-sub-query-at : tie.Need-sub-query-at
-sub-query-at c = search needs
+-- the query's record lies within the input
+within : (c : tie.Start) → c .args .plan .«first_query» + 12 * (c .args .number - 1) + 12 ≤ length (c .args .input .now)
+within c = query-in _ (opened c) _ (c .pre .1 .1 .0 .0) (c .pre .1 .1 .0 .1)
 
 mul-query-at : tie.Need-mul-query-at
-mul-query-at c = let p = c .before .before .before .before .pre in omega (arith, query-in _ (opened (c .before .before .before .before)) _ (p .1 .1 .0 .0) (p .1 .1 .0 .1), (opened (c .before .before .before .before)) .taken .small)
+mul-query-at c = let s : tie.Start = search in omega (arith, within s, opened s .taken .small)
 
 add-query-at : tie.Need-add-query-at
-add-query-at c = let p = c .before .before .before .before .before .pre in omega (arith, query-in _ (opened (c .before .before .before .before .before)) _ (p .1 .1 .0 .0) (p .1 .1 .0 .1), (opened (c .before .before .before .before .before)) .taken .small)
+add-query-at c = let s : tie.Start = search in omega (arith, within s, opened s .taken .small)
 
 query-at-requires : tie.Need-query-at-requires
-query-at-requires c κs = let p = c .before .before .before .before .before .pre in query-in _ (opened (c .before .before .before .before .before)) _ (p .1 .1 .0 .0) (p .1 .1 .0 .1)
+query-at-requires c κs = within (search)
 
 add-end : tie.Need-add-end
-add-end c = omega (arith, map-in _ ((opened (c .before .before .before .before .before .before .before)) .taken), (opened (c .before .before .before .before .before .before .before)) .taken .small)
+add-end c = let s : tie.Start = search in omega (arith, map-in _ (opened s .taken), opened s .taken .small)
 
 mul-cells : tie.Need-mul-cells
-mul-cells c = omega (arith, cells-few _ (opened (c .before .before .before .before .before .before .before .before)))
+mul-cells c = omega (arith, cells-few _ (opened (search)))
 
-sub-put-query : tie.Need-sub-put-query
-sub-put-query c = search needs
+part-end : tie.Need-part-put-query-end
+part-end c = let s : tie.Start = search in omega (arith, map-in _ (opened s .taken))
 
-part-put-query-start : tie.Need-part-put-query-start
-part-put-query-start c = search needs
+table-part : tie.Need-slice-relend-prefix-put-query
+table-part c = let s : tie.Start = search in omega (arith, cells-few _ (opened s), s .pre .1 .1 .1 .0)
 
-part-put-query-end : tie.Need-part-put-query-end
-part-put-query-end c = omega (arith, map-in _ ((opened (c .before .before .before .before .before .before .before .before .before)) .taken))
-
-slice-relend-prefix-put-query : tie.Need-slice-relend-prefix-put-query
-slice-relend-prefix-put-query c = omega (arith, cells-few _ (opened (c .before .before .before .before .before .before .before .before .before .before)), c .before .before .before .before .before .before .before .before .before .before .pre .1 .1 .1 .0)
-
-slice-aggregate-put-query : tie.Need-slice-aggregate-put-query
-slice-aggregate-put-query c = simp length-take (omega (arith, cells-few _ (opened (c .before .before .before .before .before .before .before .before .before .before .before)), c .before .before .before .before .before .before .before .before .before .before .before .pre .1 .1 .1 .0))
+table-length : tie.Need-slice-aggregate-put-query
+table-length c = let s : tie.Start = search in simp length-take (omega (arith, cells-few _ (opened s), s .pre .1 .1 .1 .0))
 
 put-query-requires : tie.Need-put-query-requires
 put-query-requires c κs =
-    let p = c .before .before .before .before .before .before .before .before .before .before .before .before .pre in
-    let o = (opened (c .before .before .before .before .before .before .before .before .before .before .before .before)) in
-    (p .0, (size-inside _ o, (floor-sound _ o _ (map-is _ (o .taken)), (simp length-take (omega (arith, cells-few _ o, p .1 .1 .1 .0)), p .1 .1 .1 .1))))
+    let s : tie.Start = search in
+    let p = s .pre in
+    let o = opened s in
+    let map = floor-sound _ o _ (map-is _ (o .taken)) in
+    (p .0, (size-inside _ o, (map, (simp length-take (omega (arith, cells-few _ o, p .1 .1 .1 .0)), p .1 .1 .1 .1))))
 
-same-length : tie.Need-same-length
-same-length c = search needs
-
-same-length-2 : tie.Need-same-length-2
-same-length-2 c = search needs
-
-same-length-3 : tie.Need-same-length-3
-same-length-3 c = search needs
-
-returns : tie.Need-returns
-returns c =
-    let p = c .before .before .before .before .before .before .before .before .before .before .before .before .before .before .before .before .before .before .before .pre in
-    let o = (opened (c .before .before .before .before .before .before .before .before .before .before .before .before .before .before .before .before .before .before .before)) in
-    let w = c .before .before .before .before .before .before .put-query .ensures in
-    record { bytes = w .bytes; is = numbered _ o _ (p .1 .1 .0 .0) (p .1 .1 .0 .1) _ (map-is _ (o .taken)) _ (c .before .before .before .before .before .before .before .before .before .before .before .before .before .query-at .ensures) _ (w .is); line-put = w .line-put }
+written : tie.Need-returns
+written c =
+    let a : tie.After-put-query = search in
+    let q : tie.After-query-at = search in
+    let s : tie.Start = search in
+    let o = opened s in
+    let w = a .put-query .ensures in
+    let here = numbered _ o _ (s .pre .1 .1 .0 .0) (s .pre .1 .1 .0 .1) _ (map-is _ (o .taken)) _ (q .query-at .ensures) _ (w .is) in
+    record { bytes = w .bytes; is = here; line-put = w .line-put }
 
 pub put-numbered-spec : {M : Type 1} → statement M
 put-numbered-spec =
     tie.close
     (tie.spec
-    sub-query-at
+    (λ c. search needs)
     mul-query-at
     add-query-at
     query-at-requires
     add-end
     mul-cells
-    sub-put-query
-    part-put-query-start
-    part-put-query-end
-    slice-relend-prefix-put-query
-    slice-aggregate-put-query
+    (λ c. search needs)
+    (λ c. search needs)
+    part-end
+    table-part
+    table-length
     put-query-requires
-    same-length
-    same-length-2
-    same-length-3
-    returns)
+    (λ c. search needs)
+    (λ c. search needs)
+    (λ c. search needs)
+    written)

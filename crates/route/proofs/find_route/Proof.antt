@@ -1,92 +1,65 @@
--- `route::find_route` meets its contract: a refusal is the first that holds, filling is then not refused, and what is read from the filled table is the answer.
--- Assumes nothing.
+-- `route::find_route` meets its contract: a refusal is the first that holds, filling is then not refused, and what is
+-- read from the filled table is the answer.
+use mathlib.Core.List.{[]}
 use borrow.Author.Needs.{needs}
-use lib.ListN.{length}
-use Rattle.floor.specs.Floor.{mapOf}
-use Rattle.floor.specs.Calls.{spotOf}
-use Rattle.calls.specs.CallTests.{ReadyEnds}
-use Rattle.calls.proofs.Called.{standing-inside}
-use Rattle.route.proofs.WaysOut.{ends-set, find-refused, fill-never, filled, find-done}
+use Rattle.given.proofs.Refusals.{refused-given}
+use Rattle.floor.specs.Floor.{mapOf, spotOf}
+use Rattle.calls.proofs.Called.{ends-ready, within, ready}
+use Rattle.route.proofs.WaysOut.{fill-never, filled, find-done}
 use Rattle.route.proofs.find_route.Statement.{statement}
 use Rattle.route.proofs.find_route.Tie as tie
 
--- what passed the tests
-passed : (c : tie.After-known-told)
-    → let a = c .before .before .before .before .before .before .before .args in
-    ReadyEnds (mapOf (a .width) (a .height) (a .map .now)) (spotOf (a .from-column) (a .from-row)) (spotOf (a .column) (a .row)) (length (a .table .now)) (c .before .tested .given .0 .0)
-passed c = ends-set (mapOf _ _ _) (spotOf _ _) (spotOf _ _) _ _ _ (c .before .before .before .test-ends .ensures) (c .before .tested .given .1)
+not-refused : tie.Need-returns-2
+not-refused c =
+    let t : tie.After-test-ends = search in
+    let f : tie.After-fill = search in
+    absurd (fill-never _ _ [] _ (t .test-ends .ensures) (search) (f .fill .result) _ _ (f .fill .ensures) (c .before .enum-told4 .given .1))
 
-test-ends-requires : tie.Need-test-ends-requires
-test-ends-requires c κs = search needs
+from-requires : tie.Need-cell-of-requires
+from-requires c κs =
+    let t : tie.After-test-ends = search in
+    let r = ends-ready _ _ _ (t .test-ends .ensures) (search) in
+    within (mapOf _ _ _) (spotOf _ _) _ (r .fitting) (r .from)
 
-enum-known-tested : tie.Need-enum-known-tested
-enum-known-tested c = search needs
-
-enum-told : tie.Need-enum-told
-enum-told c = search needs
-
-ends-refused-requires : tie.Need-ends-refused-requires
-ends-refused-requires c κs = search needs
-
-returns : tie.Need-returns
-returns c = find-refused (mapOf _ _ _) (spotOf _ _) (spotOf _ _) _ _ _ _ (c .before .before .before .test-ends .ensures) (c .before .enum-told .given .1) _ (c .ends-refused .ensures)
-
-fill-requires : tie.Need-fill-requires
-fill-requires c κs = search needs
-
-enum-told-2 : tie.Need-enum-told-2
-enum-told-2 c = search needs
-
-enum-told-3 : tie.Need-enum-told-3
-enum-told-3 c = search needs
-
-refused-at-requires : tie.Need-refused-at-requires
-refused-at-requires c κs = search needs
-
-same-length : tie.Need-same-length
-same-length c = search needs
-
-returns-2 : tie.Need-returns-2
-returns-2 c =
-    absurd (fill-never (mapOf _ _ _) (spotOf _ _) (spotOf _ _) _ (c .before .before .before .before .before .before .before .before .before .before .before .before .before .before .args .legs .now) _ (passed (c .before .before .before .before .before .before .before)) _ _ _ (c .before .before .before .before .before .fill .ensures) (c .before .enum-told3 .given .1))
+to-requires : tie.Need-cell-of-requires-2
+to-requires c κs =
+    let t : tie.After-test-ends = search in
+    let r = ends-ready _ _ _ (t .test-ends .ensures) (search) in
+    within (mapOf _ _ _) (spotOf _ _) _ (r .fitting) (r .to)
 
 read-route-requires : tie.Need-read-route-requires
 read-route-requires c κs =
-    let r = passed (c .before .before .before .before .before .before .before .before) in (
-      r .fitting .sound,
-      ((standing-inside (mapOf _ _ _) (spotOf _ _) _ (r .from), standing-inside (mapOf _ _ _) (spotOf _ _) _ (r .to)), filled (mapOf _ _ _) (spotOf _ _) (spotOf _ _) _ (c .before .before .before .before .before .before .before .before .before .before .before .before .before .before .before .args .legs .now) _ r _ _ (c .before .before .before .before .before .before .fill .ensures)),
+    let t : tie.After-test-ends = search in
+    let f : tie.After-fill = search in
+    let u : tie.After-cell-of = search in
+    let v : tie.After-cell-of2 = search in
+    let r = ends-ready _ _ _ (t .test-ends .ensures) (search) in
+    let a = ready (mapOf _ _ _) (spotOf _ _) _ _ (u .cell-of .ensures) (r .fitting) (r .from) in
+    let b = ready (mapOf _ _ _) (spotOf _ _) _ _ (v .cell-of2 .ensures) (r .fitting) (r .to) in (
+      a .fitting .sound,
+      (
+        (a .chosen .on, b .chosen .on),
+        filled _ _ [] _ (t .test-ends .ensures) (search) (f .fill .result) _ (f .fill .ensures) _ (v .cell-of2 .ensures),
+      ),
     )
 
-read-answer-requires : tie.Need-read-answer-requires
-read-answer-requires c κs = search needs
-
-same-length-2 : tie.Need-same-length-2
-same-length-2 c = search needs
-
-same-length-3 : tie.Need-same-length-3
-same-length-3 c = search needs
-
-returns-3 : tie.Need-returns-3
-returns-3 c =
-    find-done (mapOf _ _ _) (spotOf _ _) (spotOf _ _) _ (c .before .before .before .before .before .before .before .before .before .before .before .before .before .before .before .before .before .before .before .args .legs .now) _ (passed (c .before .before .before .before .before .before .before .before .before .before .before .before)) _ _ _ (c .before .before .before .before .before .before .before .before .before .before .fill .ensures) (c .before .before .before .read-route .result) (c .before .before .before .read-route .ensures) _ (c .read-answer .ensures)
+found : tie.Need-returns-3
+found c =
+    let t : tie.After-test-ends = search in
+    let f : tie.After-fill = search in
+    let u : tie.After-cell-of = search in
+    let v : tie.After-cell-of2 = search in
+    let r : tie.After-read-route = search in
+    find-done _ _ _ _ (t .test-ends .ensures) (search) _ _ (v .cell-of2 .ensures) (u .cell-of .ensures) (f .fill .result) _ _ (f .fill .ensures)
+    (r .read-route .result) (r .read-route .ensures) _ (c .read-answer .ensures)
 
 pub find-route-spec : {M : Type 1} → statement M
 find-route-spec =
     tie.close
     (tie.spec
-    test-ends-requires
-    enum-known-tested
-    enum-told
-    ends-refused-requires
-    returns
-    fill-requires
-    enum-told-2
-    enum-told-3
-    refused-at-requires
-    same-length
-    returns-2
+    (λ c κs. search needs) (λ c. search needs) (λ c. search needs) (λ c κs. search needs) (λ c. search refused-given)
+    (λ c κs. search needs) (λ c. search needs) (λ c. search needs) (λ c κs. search needs) (λ c. search needs) not-refused
+    from-requires
+    to-requires
     read-route-requires
-    read-answer-requires
-    same-length-2
-    same-length-3
-    returns-3)
+    (λ c κs. search needs) (λ c. search needs) (λ c. search needs) found)

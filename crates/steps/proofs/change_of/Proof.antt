@@ -1,5 +1,4 @@
--- `floor::steps::change_of` meets its contract: the entry is read off the table.
--- Assumes nothing.
+-- `steps::change_of` meets its contract: the entry is read off the table.
 use mathlib.Core.Path.{refl}
 use borrow.Author.Needs.{needs}
 use Rattle.steps.specs.Heading.{changes, changeOf}

@@ -1,5 +1,4 @@
--- `floor::steps::permitted` meets its contract: each way out rewrites by the cells that were found open on the way.
--- Assumes nothing.
+-- `steps::permitted` meets its contract: each way out rewrites by the cells that were found open on the way.
 use mathlib.Core.Path.{sym, _∙_}
 use borrow.Author.Tests.{not-true, not-false}
 use Rattle.steps.specs.Leading.{permitted}
@@ -32,8 +31,10 @@ open-past-requires-2 c κs = search needs
 returns-2 : tie.Need-returns-2
 unfolding permitted
 returns-2 c =
+    let at-open-past : tie.After-open-past = search in
+    let else1 : tie.Else1 = search in
     rw (
-      sym (c .before .before .before .open-past .ensures) ∙ not-false _ (c .before .before .if1 .left),
+      sym (at-open-past .open-past .ensures) ∙ not-false _ (else1 .if1 .left),
       sym (c .before .open-past2 .ensures) ∙ not-true _ (c .if2 .taken),
     )
 
@@ -49,9 +50,13 @@ open-past-requires-3 c κs = search needs
 returns-3 : tie.Need-returns-3
 unfolding permitted
 returns-3 c =
+    let at-open-past : tie.After-open-past = search in
+    let else1 : tie.Else1 = search in
+    let at-open-past2 : tie.After-open-past2 = search in
+    let else2 : tie.Else2 = search in
     rw (
-      sym (c .before .before .before .before .before .open-past .ensures) ∙ not-false _ (c .before .before .before .before .if1 .left),
-      sym (c .before .before .before .open-past2 .ensures) ∙ not-false _ (c .before .before .if2 .left),
+      sym (at-open-past .open-past .ensures) ∙ not-false _ (else1 .if1 .left),
+      sym (at-open-past2 .open-past2 .ensures) ∙ not-false _ (else2 .if2 .left),
       sym (c .before .open-past3 .ensures) ∙ not-true _ (c .if3 .taken),
     )
 
@@ -67,10 +72,15 @@ open-past-requires-4 c κs = search needs
 returns-4 : tie.Need-returns-4
 unfolding permitted
 returns-4 c =
+    let at-open-past : tie.After-open-past = search in
+    let else1 : tie.Else1 = search in
+    let at-open-past2 : tie.After-open-past2 = search in
+    let else2 : tie.Else2 = search in
+    let at-open-past3 : tie.After-open-past3 = search in
     rw (
-      sym (c .before .before .before .before .before .before .open-past .ensures) ∙ not-false _ (c .before .before .before .before .before .if1 .left),
-      sym (c .before .before .before .before .open-past2 .ensures) ∙ not-false _ (c .before .before .before .if2 .left),
-      sym (c .before .before .open-past3 .ensures) ∙ not-false _ (c .before .if3 .left),
+      sym (at-open-past .open-past .ensures) ∙ not-false _ (else1 .if1 .left),
+      sym (at-open-past2 .open-past2 .ensures) ∙ not-false _ (else2 .if2 .left),
+      sym (at-open-past3 .open-past3 .ensures) ∙ not-false _ (c .before .if3 .left),
     )
     (c .open-past4 .ensures)
 

@@ -1,5 +1,5 @@
--- `storing::entry_of` meets its contract: the mark where no length stands, else the parts of the key that the number stands for, which
--- are found without a difference below 0.
+-- `storing::entry_of` meets its contract: the mark where no length stands, else the parts of the key that the number
+-- stands for, which are found without a difference below 0.
 use mathlib.Core.Path.{ap₂, _∙_}
 use Prim.Native.Nat.{ℕ, _+_, _*_}
 use native.Mathlib.Omega.{arith}

@@ -1,54 +1,39 @@
--- `table::check` meets its contract: a refusal is the first that holds, and what passed the tests is what the pass over the cells asks for.
--- Assumes nothing.
+-- `table::check` meets its contract: a refusal is the first that holds, and what passed the tests is what the pass
+-- over the cells asks for.
 use borrow.Author.Needs.{needs}
-use lib.ListN.{length}
-use Rattle.floor.specs.Floor.{mapOf}
-use Rattle.floor.specs.Calls.{spotOf}
-use Rattle.calls.specs.CallTests.{ReadyGoal}
-use Rattle.table.proofs.WaysOut.{goal-ready, goal-set, check-refused, check-differs, check-right}
+use Rattle.given.proofs.Refusals.{refused-kept}
+use Rattle.floor.specs.Floor.{mapOf, spotOf}
+use Rattle.calls.proofs.Called.{goal-ready, within, ready}
+use Rattle.table.proofs.WaysOut.{judged}
 use Rattle.table.proofs.check.Statement.{statement}
 use Rattle.table.proofs.check.Tie as tie
 
-test-goal-requires : tie.Need-test-goal-requires
-test-goal-requires c κs = search needs
-
-enum-known-tested : tie.Need-enum-known-tested
-enum-known-tested c = search needs
-
-enum-told : tie.Need-enum-told
-enum-told c = search needs
-
-check-refusal-requires : tie.Need-check-refusal-requires
-check-refusal-requires c κs = search needs
-
-returns : tie.Need-returns
-returns c =
-    check-refused (mapOf _ _ _) (spotOf _ _) _ _ _ (c .before .before .before .test-goal .ensures) (c .before .enum-told .given .1) _ (c .check-refusal .ensures)
-
--- the goal's cell passed the tests
-passed : (c : tie.After-known-told)
-    → let a = c .before .before .before .before .before .before .args in
-    ReadyGoal (mapOf (a .width) (a .height) (a .map .now)) (spotOf (a .column) (a .row)) (length (a .table .now)) (c .before .tested .given .0 .0)
-passed c = goal-ready (mapOf _ _ _) (spotOf _ _) _ _ _ (c .before .before .before .test-goal .ensures) (c .before .tested .given .1)
+cell-of-requires : tie.Need-cell-of-requires
+cell-of-requires c κs =
+    let t : tie.After-test-goal = search in
+    let r = goal-ready _ _ _ (t .test-goal .ensures) (search) in
+    within (mapOf _ _ _) (spotOf _ _) _ (r .fitting) (r .to)
 
 first-wrong-requires : tie.Need-first-wrong-requires
-first-wrong-requires c κs = goal-set (mapOf _ _ _) (spotOf _ _) _ _ (passed c)
+first-wrong-requires c κs =
+    let t : tie.After-test-goal = search in
+    let g : tie.After-cell-of = search in
+    let r = goal-ready _ _ _ (t .test-goal .ensures) (search) in
+    ready (mapOf _ _ _) (spotOf _ _) _ _ (g .cell-of .ensures) (r .fitting) (r .to)
 
-returns-2 : tie.Need-returns-2
-returns-2 c = check-differs (mapOf _ _ _) (spotOf _ _) _ _ _ (passed (c .before .before)) (c .before .first-wrong .ensures) (c .if1 .taken)
-
-returns-3 : tie.Need-returns-3
-returns-3 c = check-right (mapOf _ _ _) (spotOf _ _) _ _ _ (passed (c .before .before)) (c .before .first-wrong .ensures) (c .if1 .left)
+told : tie.Need-returns-2
+told c =
+    let t : tie.After-test-goal = search in
+    let g : tie.After-cell-of = search in
+    let f : tie.After-first-wrong = search in
+    judged _ _ _ (t .test-goal .ensures) (search) _ (g .cell-of .ensures) _ (f .first-wrong .ensures) _ (c .refuse-at .ensures)
 
 pub check-spec : {M : Type 1} → statement M
 check-spec =
     tie.close
     (tie.spec
-    test-goal-requires
-    enum-known-tested
-    enum-told
-    check-refusal-requires
-    returns
+    (λ c κs. search needs) (λ c. search needs) (λ c. search needs) (λ c. search refused-kept)
+    cell-of-requires
     first-wrong-requires
-    returns-2
-    returns-3)
+    (λ c κs. search needs)
+    told)

@@ -1,5 +1,4 @@
 -- `walker::cost_of` meets its contract: an even heading is a straight step, an odd one a diagonal step.
--- Assumes nothing.
 use native.Mathlib.Omega.{arith}
 use Rattle.walker.proofs.Searching.{cost-straight, cost-diagonal}
 use Rattle.walker.proofs.cost_of.Statement.{statement}

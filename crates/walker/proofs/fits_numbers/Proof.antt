@@ -1,5 +1,4 @@
 -- `walker::fits_numbers` meets its contract: a place off the table to the north wraps to a number that is past its end.
--- Assumes nothing.
 use native.Mathlib.Omega.{arith}
 use borrow.Author.Needs.{needs}
 use Rattle.walker.proofs.Past.{differ-off, differ-on}
@@ -17,9 +16,11 @@ wrapping-sub-usize-requires c κs = search needs
 
 returns : tie.Need-returns
 returns c =
-    let start = c .before .before .before .before in
-    let past = c .before .before .past-step .ensures in
-    differ-off _ _ _ _ _ _ (past .0) (past .1) (start .pre .0 .0) (start .pre .0 .1) (omega (arith, c .before .wrapping-sub-usize .ok)) (c .before .wrapping-sub-usize .ensures) (c .if1 .taken)
+    let start : tie.Start = search in
+    let at-past-step : tie.After-past-step = search in
+    let past = at-past-step .past-step .ensures in
+    differ-off _ _ _ _ _ _ (past .0) (past .1) (start .pre .0 .0) (start .pre .0 .1) (omega (arith, c .before .wrapping-sub-usize .ok))
+    (c .before .wrapping-sub-usize .ensures) (c .if1 .taken)
 
 mul-wide : tie.Need-mul-wide
 mul-wide c = search needs
@@ -47,11 +48,15 @@ add-result c = search needs
 
 returns-2 : tie.Need-returns-2
 returns-2 c =
-    let wrapped = c .before .before .before .before .before .before in
-    let start = wrapped .before .before .before in
-    let past = wrapped .before .past-step .ensures in
-    rw (c .before .before .before .wide .ensures .0, c .before .wide2 .ensures .0, c .cost-of .ensures .0)
-    (differ-on _ _ _ _ _ _ (past .0) (past .1) (start .pre .0 .0) (start .pre .0 .1) (omega (arith, wrapped .wrapping-sub-usize .ok)) (wrapped .wrapping-sub-usize .ensures) (c .before .before .before .before .before .if1 .left))
+    let start : tie.Start = search in
+    let at-past-step : tie.After-past-step = search in
+    let at-wrapping-sub-usize : tie.After-wrapping-sub-usize = search in
+    let else1 : tie.Else1 = search in
+    let at-wide : tie.After-wide = search in
+    let past = at-past-step .past-step .ensures in
+    rw (at-wide .wide .ensures .0, c .before .wide2 .ensures .0, c .cost-of .ensures .0)
+    (differ-on _ _ _ _ _ _ (past .0) (past .1) (start .pre .0 .0) (start .pre .0 .1) (omega (arith, at-wrapping-sub-usize .wrapping-sub-usize .ok))
+    (at-wrapping-sub-usize .wrapping-sub-usize .ensures) (else1 .if1 .left))
 
 pub fits-numbers-spec : {M : Type 1} → statement M
 fits-numbers-spec =

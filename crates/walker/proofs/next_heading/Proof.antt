@@ -1,11 +1,12 @@
--- `walker::next_heading` meets its contract: the search from the heading on finds what the whole search finds. The heading of a turn is even, so the next one is one of the eight.
--- Assumes nothing.
+-- `walker::next_heading` meets its contract: the search from the heading on finds what the whole search finds. The
+-- heading of a turn is even, so the next one is one of the eight.
 use mathlib.Core.Path.{_≡_, refl}
 use Prim.Native.Nat.{_-_, _%_}
 use native.Mathlib.Omega.{arith}
 use Rattle.floor.specs.Floor.{mapOf}
 use Rattle.steps.specs.Leading.{leadOf}
-use Rattle.walker.specs.Reading.{numbered, fits, next, seek}
+use Rattle.steps.specs.Ranking.{numbered}
+use Rattle.walker.specs.Walkers.{fits, next, seek}
 use Rattle.walker.proofs.Searching.{pair-found, pair-goes, seek-found, seek-none}
 use Rattle.walker.proofs.next_heading.Statement.{statement}
 use Rattle.walker.proofs.next_heading.Tie as tie
@@ -24,42 +25,63 @@ unfolding next
 loop-holds c = (refl, refl)
 
 fits-step-requires : tie.Need-fits-step-requires Inv-loop μ-loop
-fits-step-requires c κs = let p = c .before .before .before .before .pre in (p .0, (p .1 .0, (p .1 .1, c .loop-test .taken)))
+fits-step-requires c κs =
+    let start : tie.Start Inv-loop μ-loop = search in
+    let p = start .pre in (p .0, (p .1 .0, (p .1 .1, c .loop-test .taken)))
 
 returns : tie.Need-returns Inv-loop μ-loop
 returns c =
-    seek-found _ (numbered .at) _ _ (c .before .before .before .loop .inv .1) (c .before .before .loop-test .taken) _ (c .before .fits-step .ensures) (c .if1 .taken)
+    let top : tie.At-loop Inv-loop μ-loop = search in
+    let turn : tie.In-loop Inv-loop μ-loop = search in
+    seek-found _ (numbered .at) _ _ (top .loop .inv .1) (turn .loop-test .taken) _ (c .before .fits-step .ensures) (c .if1 .taken)
 
 add-fits-step : tie.Need-add-fits-step Inv-loop μ-loop
-add-fits-step c = omega (arith, c .before .before .loop-test .taken)
+add-fits-step c =
+    let turn : tie.In-loop Inv-loop μ-loop = search in
+    omega (arith, turn .loop-test .taken)
 
 second-requires : tie.Need-fits-step-requires-2 Inv-loop μ-loop
 second-requires c κs =
-    let p = c .before .before .before .before .before .before .pre in
-    (p .0, (p .1 .0, (p .1 .1, omega (arith, c .before .before .before .loop .inv .0, c .before .before .loop-test .taken))))
+    let start : tie.Start Inv-loop μ-loop = search in
+    let top : tie.At-loop Inv-loop μ-loop = search in
+    let turn : tie.In-loop Inv-loop μ-loop = search in
+    let p = start .pre in
+    (p .0, (p .1 .0, (p .1 .1, omega (arith, top .loop .inv .0, turn .loop-test .taken))))
 
 add-result : tie.Need-add-result Inv-loop μ-loop
-add-result c = omega (arith, c .before .before .before .before .loop-test .taken)
+add-result c =
+    let turn : tie.In-loop Inv-loop μ-loop = search in
+    omega (arith, turn .loop-test .taken)
 
 returns-2 : tie.Need-returns-2 Inv-loop μ-loop
 returns-2 c =
-    let turn = c .before .before .before .before in
-    let inv = turn .before .loop .inv in
-    pair-found _ (numbered .at) _ _ (inv .1) (inv .0) (turn .loop-test .taken) _ (c .before .before .before .fits-step .ensures) (c .before .before .if1 .left)
+    let top : tie.At-loop Inv-loop μ-loop = search in
+    let turn : tie.In-loop Inv-loop μ-loop = search in
+    let at-fits-step : tie.After-fits-step Inv-loop μ-loop = search in
+    let else1 : tie.Else1 Inv-loop μ-loop = search in
+    let inv = top .loop .inv in
+    pair-found _ (numbered .at) _ _ (inv .1) (inv .0) (turn .loop-test .taken) _ (at-fits-step .fits-step .ensures) (else1 .if1 .left)
     _ (c .before .fits-step2 .ensures) (c .if2 .taken)
 
 add-heading : tie.Need-add-heading Inv-loop μ-loop
-add-heading c = omega (arith, c .before .before .before .before .loop-test .taken)
+add-heading c =
+    let turn : tie.In-loop Inv-loop μ-loop = search in
+    omega (arith, turn .loop-test .taken)
 
 loop-less : tie.Need-loop-less Inv-loop μ-loop
-loop-less c = omega (arith, c .before .before .before .before .loop-test .taken)
+loop-less c =
+    let turn : tie.In-loop Inv-loop μ-loop = search in
+    omega (arith, turn .loop-test .taken)
 
 loop-again : tie.Need-loop-again Inv-loop μ-loop
 loop-again c =
-    let turn = c .before .before .before .before in
-    let inv = turn .before .loop .inv in
+    let top : tie.At-loop Inv-loop μ-loop = search in
+    let turn : tie.In-loop Inv-loop μ-loop = search in
+    let at-fits-step : tie.After-fits-step Inv-loop μ-loop = search in
+    let else1 : tie.Else1 Inv-loop μ-loop = search in
+    let inv = top .loop .inv in
     let on =
-    pair-goes _ (numbered .at) _ _ (inv .1) (inv .0) (turn .loop-test .taken) _ (c .before .before .before .fits-step .ensures) (c .before .before .if1 .left)
+    pair-goes _ (numbered .at) _ _ (inv .1) (inv .0) (turn .loop-test .taken) _ (at-fits-step .fits-step .ensures) (else1 .if1 .left)
     _ (c .before .fits-step2 .ensures) (c .if2 .left) in
     (omega (arith, inv .0), on)
 

@@ -1,5 +1,4 @@
 -- `walker::one_more` meets its contract: an even heading is a straight step, an odd one a diagonal step.
--- Assumes nothing.
 use borrow.Author.Needs.{needs}
 use Rattle.walker.proofs.Stepping.{one-straight, one-diagonal}
 use Rattle.walker.proofs.one_more.Statement.{statement}

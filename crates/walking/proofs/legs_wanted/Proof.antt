@@ -1,7 +1,7 @@
--- `walking::legs_wanted` meets its contract: a route has no more legs than steps, and the start's number says how many steps; else the legs are counted.
--- Assumes nothing.
+-- `walking::legs_wanted` meets its contract: a route has no more legs than steps, and the start's number says how many
+-- steps; else the legs are counted.
 use borrow.Author.Needs.{needs}
-use Rattle.walker.specs.Reading.{numbered}
+use Rattle.steps.specs.Ranking.{numbered}
 use Rattle.walker.proofs.OnFloor.{filled-readable}
 use Rattle.walking.proofs.Answering.{wanted-all, wanted-none}
 use Rattle.walking.proofs.legs_wanted.Statement.{statement}
@@ -21,17 +21,21 @@ mul-if1 c = search needs
 
 returns : tie.Need-returns
 returns c =
-    let p = c .before .before .before .before .before .pre in
-    wanted-none _ (p .0) _ (p .1 .0 .1) _ (p .1 .1 .0) numbered _ (p .1 .0 .0) _ (p .1 .1 .1 .1) (p .1 .1 .1 .0) _ _ (c .before .steps-of .ensures .0) (c .if1 .taken)
+    let start : tie.Start = search in
+    let p = start .pre in
+    wanted-none _ (p .0) _ (p .1 .0 .1) _ (p .1 .1 .0) numbered _ (p .1 .0 .0) _ (p .1 .1 .1 .1) (p .1 .1 .1 .0) _ _ (c .before .steps-of .ensures .0)
+    (c .if1 .taken)
 
 count-legs-requires : tie.Need-count-legs-requires
 count-legs-requires c κs =
-    let p = c .before .before .before .before .before .pre in
+    let start : tie.Start = search in
+    let p = start .pre in
     (p .0, (filled-readable _ (p .0) _ (p .1 .0 .1) _ (p .1 .1 .0), p .1 .1 .1 .1 .stands))
 
 returns-2 : tie.Need-returns-2
 returns-2 c =
-    let p = c .before .before .before .before .before .before .pre in
+    let start : tie.Start = search in
+    let p = start .pre in
     wanted-all _ (p .0) _ (p .1 .0 .1) _ (p .1 .1 .0) numbered _ (p .1 .0 .0) _ (p .1 .1 .1 .1) (p .1 .1 .1 .0) _ _ (c .count-legs .ensures)
 
 pub legs-wanted-spec : {M : Type 1} → statement M

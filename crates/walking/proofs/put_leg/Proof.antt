@@ -1,5 +1,4 @@
 -- `walking::put_leg` meets its contract: both places lie in the buffer, and heading and count fit a byte.
--- Assumes nothing.
 use borrow.Author.Needs.{needs}
 use native.Mathlib.Omega.{arith}
 use lib.ListN.{length-set}

@@ -1,5 +1,5 @@
--- `waves::fill_in` meets its contract: the map is loaded, the goal is given its number, the waves leave the shortest lengths, and these are
--- stored.
+-- `waves::fill_in` meets its contract: the map is loaded, the goal is given its number, the waves leave the shortest
+-- lengths, and these are stored.
 use mathlib.Core.Path.{refl, _∙_}
 use Prim.Native.Nat.{_/_, _%_, _<_}
 use native.Mathlib.Omega.{arith}
@@ -15,7 +15,7 @@ load-map-requires : tie.Need-load-map-requires
 load-map-requires c κs =
     let s : tie.Start = search in
     let p = s .pre in
-    (p .1 .sound, prefix-none _ (p .1 .sound) _ (p .0 .cleared) (p .0 .tall))
+    (p .1 .fitting .sound, prefix-none _ (p .1 .fitting .sound) _ (p .0 .cleared) (p .0 .tall))
 
 -- the goal's place is in the work array, which is not large
 small : (c : tie.After-load-map) → let s : tie.Start = search in spot (s .args .goal % s .args .width) (s .args .goal / s .args .width) < largest
@@ -60,7 +60,7 @@ store-table-requires c κs =
     let s : tie.Start = search in
     let l : tie.After-load-map = search in
     let w : tie.After-all-waves = search in
-    (settled _ _ _ (s .pre .1) _ (l .load-map .ensures) _ (w .all-waves .ensures), omega (arith, w .all-waves .kept .1, s .pre .1 .table))
+    (settled _ _ _ (s .pre .1) _ (l .load-map .ensures) _ (w .all-waves .ensures), omega (arith, w .all-waves .kept .1, s .pre .1 .fitting .size))
 
 same-length : tie.Need-same-length
 same-length c =

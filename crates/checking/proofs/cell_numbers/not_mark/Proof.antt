@@ -1,5 +1,4 @@
 -- `checking::cell_numbers::not_mark` meets its contract: each return is one case of the test.
--- Assumes nothing.
 use borrow.Author.Tests.{eq-eqb, ne-eqb}
 use Rattle.checking.proofs.cell_numbers.not_mark.Statement.{statement}
 use Rattle.checking.proofs.cell_numbers.not_mark.Tie as tie

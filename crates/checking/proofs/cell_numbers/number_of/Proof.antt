@@ -1,5 +1,4 @@
 -- `checking::cell_numbers::number_of` meets its contract: each return is one case of the bit.
--- Assumes nothing.
 use mathlib.Core.Path.{ap}
 use Prim.Native.Nat.{ℕ, _+_}
 use native.Mathlib.Omega.{arith}

@@ -1,5 +1,5 @@
--- `checking::cell_numbers::open_number` meets its contract: both parts are below 16,384 exactly if their quotients by it add up to 0.
--- Assumes nothing.
+-- `checking::cell_numbers::open_number` meets its contract: both parts are below 16,384 exactly if their quotients by
+-- it add up to 0.
 use native.Mathlib.Omega.{arith}
 use mathlib.Core.Path.{sym, ap, _∙_}
 use Prim.Native.Nat.{ℕ, _+_}

@@ -1,5 +1,5 @@
--- `checking::window::move_down` meets its contract. The invariant: the places passed are written, so a place 130 further on still has its
--- first number.
+-- `checking::window::move_down` meets its contract. The invariant: the places passed are written, so a place 130
+-- further on still has its first number.
 use mathlib.Core.Path.{subst}
 use mathlib.Core.Logic.{inr}
 use Prim.Native.Nat.{ℕ, _+_, _-_, _≤_}

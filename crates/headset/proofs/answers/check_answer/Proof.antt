@@ -1,32 +1,14 @@
 -- `headset::answers::check_answer` meets its contract: each case has its fields, and 0 in the others.
--- Assumes nothing.
 use mathlib.Core.Path.{sym, ap}
-use Rattle.headset.specs.Inner.{checkAnswer}
 use borrow.Author.Needs.{needs}
+use Rattle.headset.specs.Shown.{checkAnswer}
 use Rattle.headset.proofs.answers.check_answer.Statement.{statement}
 use Rattle.headset.proofs.answers.check_answer.Tie as tie
 
-enum-told : tie.Need-enum-told
-enum-told c = search needs
-
-enum-known-a : tie.Need-enum-known-a
-enum-known-a c = search needs
-
-enum-known-a-2 : tie.Need-enum-known-a-2
-enum-known-a-2 c = search needs
-
-cast-t5 : tie.Need-cast-t5
-cast-t5 c = search needs
-
-returns : tie.Need-returns
-returns c = ap checkAnswer (sym (c .enum-told .given .1))
-
-returns-2 : tie.Need-returns-2
-returns-2 c = ap checkAnswer (sym (c .before .a .given .1))
-
-returns-3 : tie.Need-returns-3
-returns-3 c = ap checkAnswer (sym (c .before .a2 .given .1))
-
 pub check-answer-spec : {M : Type 1} → statement M
 check-answer-spec =
-    tie.close (tie.spec enum-told enum-known-a enum-known-a-2 cast-t5 returns returns-2 returns-3)
+    tie.close
+    (tie.spec
+    (λ c. search needs) (λ c. search needs) (λ c. search needs)
+    (λ c. let k : tie.After-enum-told = search in ap checkAnswer (sym (k .enum-told .given .1)))
+    (λ c. let k : tie.After-a = search in ap checkAnswer (sym (k .a .given .1))))

@@ -1,25 +1,14 @@
 -- `headset::answers::room_answer` meets its contract: each case has its fields, and 0 in the others.
--- Assumes nothing.
 use mathlib.Core.Path.{sym, ap}
-use Rattle.headset.specs.Inner.{roomAnswer}
 use borrow.Author.Needs.{needs}
+use Rattle.headset.specs.Shown.{roomAnswer}
 use Rattle.headset.proofs.answers.room_answer.Statement.{statement}
 use Rattle.headset.proofs.answers.room_answer.Tie as tie
 
-enum-known-a : tie.Need-enum-known-a
-enum-known-a c = search needs
-
-enum-known-a-2 : tie.Need-enum-known-a-2
-enum-known-a-2 c = search needs
-
-cast-t5 : tie.Need-cast-t5
-cast-t5 c = search needs
-
-returns : tie.Need-returns
-returns c = ap roomAnswer (sym (c .before .a .given .1))
-
-returns-2 : tie.Need-returns-2
-returns-2 c = ap roomAnswer (sym (c .before .a2 .given .1))
-
 pub room-answer-spec : {M : Type 1} → statement M
-room-answer-spec = tie.close (tie.spec enum-known-a enum-known-a-2 cast-t5 returns returns-2)
+room-answer-spec =
+    tie.close
+    (tie.spec
+    (λ c. search needs) (λ c. search needs) (λ c. search needs)
+    (λ c. let k : tie.After-a = search in ap roomAnswer (sym (k .a .given .1)))
+    (λ c. let k : tie.After-a2 = search in ap roomAnswer (sym (k .a2 .given .1))))

@@ -1,11 +1,11 @@
--- `judging::least::least` meets its contract. The invariant: so far it is the least of the start and what the headings passed offer.
--- Assumes nothing.
+-- `judging::least::least` meets its contract. The invariant: so far it is the least of the start and what the headings
+-- passed offer.
 use mathlib.Core.Path.{_≡_, ap, _∙_}
 use Prim.Native.Nat.{_-_, _≤_}
 use native.Mathlib.Omega.{arith}
 use borrow.Author.Needs.{needs}
 use Rattle.judging.specs.Window.{leastIn}
-use Rattle.judging.proofs.Turns.{least-none, least-more}
+use Rattle.judging.proofs.OneMore.{least-none, least-more}
 use Rattle.judging.proofs.least.least.Statement.{statement}
 use Rattle.judging.proofs.least.least.Tie as tie
 
@@ -31,11 +31,14 @@ loop-less : tie.Need-loop-less Inv-loop μ-loop
 loop-less c = search needs
 
 loop-again : tie.Need-loop-again Inv-loop μ-loop
-loop-again c = (search needs, least-more _ _ _ _ _ _ _ (c .before .before .before .loop .inv .1) (c .before .offer .ensures) (c .lesser .ensures))
+loop-again c =
+    let top : tie.At-loop Inv-loop μ-loop = search in
+    (search needs, least-more _ _ _ _ _ _ _ (top .loop .inv .1) (c .before .offer .ensures) (c .lesser .ensures))
 
 returns : tie.Need-returns Inv-loop μ-loop
 returns c =
-    let a = c .before .before .args in
+    let start : tie.Start Inv-loop μ-loop = search in
+    let a = start .args in
     let e : c .before .loop .heading ≡ 8 = omega arith in
     c .before .loop .inv .1 ∙ ap (leastIn (a .window .now) (a .place) (a .start)) e
 

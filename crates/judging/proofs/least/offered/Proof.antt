@@ -1,5 +1,5 @@
--- `judging::least::offered` meets its contract: three numbers of the window and a key, none of which is above that of a blocked cell, fit together.
--- Assumes nothing.
+-- `judging::least::offered` meets its contract: three numbers of the window and a key, none of which is above that of a
+-- blocked cell, fit together.
 use mathlib.Core.Path.{ap₂}
 use Prim.Native.Nat.{ℕ, _+_, _-_, _*_}
 use lib.ListN.{getD}
@@ -56,31 +56,47 @@ element-copy-out-other c = search needs
 
 add-result : tie.Need-add-result
 add-result c =
-    let s = c .before .before .before in
-    omega (arith, s .pre .1 .1 .low (s .args .place + s .args .down * 130 + s .args .across - 131))
+    let start : tie.Start = search in
+    omega (arith, start .pre .1 .1 .low (start .args .place + start .args .down * 130 + start .args .across - 131))
 
 shut-requires : tie.Need-shut-requires
 shut-requires c κs = search needs
 
 add-result-2 : tie.Need-add-result-2
 add-result-2 c =
-    let s = c .before .before .before .before in
-    omega (arith, s .pre .1 .1 .low (s .args .place + s .args .down * 130 + s .args .across - 131), s .pre .1 .1 .low (s .args .place + s .args .down * 130 - 130), c .shut .ensures)
+    let start : tie.Start = search in
+    omega (
+      arith,
+      start .pre .1 .1 .low (start .args .place + start .args .down * 130 + start .args .across - 131),
+      start .pre .1 .1 .low
+          (start .args .place + start .args .down * 130 - 130),
+      c .shut .ensures,
+    )
 
 shut-requires-2 : tie.Need-shut-requires-2
 shut-requires-2 c κs = search needs
 
 add-result-3 : tie.Need-add-result-3
 add-result-3 c =
-    let s = c .before .before .before .before .before in
-    let l = s .pre .1 .1 .low in
-    omega (arith, l (s .args .place + s .args .down * 130 + s .args .across - 131), l (s .args .place + s .args .down * 130 - 130), l (s .args .place + s .args .across - 1), c .before .shut .ensures, c .shut2 .ensures)
+    let start : tie.Start = search in
+    let l = start .pre .1 .1 .low in
+    omega (
+      arith,
+      l (start .args .place + start .args .down * 130 + start .args .across - 131),
+      l
+          (start .args .place + start .args .down * 130 - 130),
+      l (start .args .place + start .args .across - 1),
+      c .before .shut .ensures,
+      c .shut2 .ensures,
+    )
 
 returns : tie.Need-returns
 unfolding offeredIn
 returns c =
-    let a = c .before .before .before .before .before .args in
-    ap₂ (λ (side other : ℕ). getD (a .window .now) (a .place + a .down * 130 + a .across - 131) 0 + a .key + side + other) (c .before .shut .ensures) (c .shut2 .ensures)
+    let start : tie.Start = search in
+    let a = start .args in
+    ap₂ (λ (side other : ℕ). getD (a .window .now) (a .place + a .down * 130 + a .across - 131) 0 + a .key + side + other) (c .before .shut .ensures)
+    (c .shut2 .ensures)
 
 pub offered-spec : {M : Type 1} → statement M
 offered-spec =

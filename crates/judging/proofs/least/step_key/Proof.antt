@@ -1,5 +1,4 @@
 -- `judging::least::step_key` meets its contract: each return is one case of the heading's parity.
--- Assumes nothing.
 use mathlib.Core.Path.{_≡_}
 use Prim.Native.Nat.{_%_}
 use native.Mathlib.Omega.{arith}

@@ -1,11 +1,10 @@
 -- `judging::rows::differing_in` meets its contract. The invariant: of the columns passed, so many differ.
--- Assumes nothing.
 use mathlib.Core.Path.{_≡_, ap, _∙_}
 use Prim.Native.Nat.{_+_, _-_, _≤_}
 use native.Mathlib.Omega.{arith}
 use borrow.Author.Needs.{needs}
 use Rattle.judging.specs.Window.{differing}
-use Rattle.judging.proofs.Turns.{differing-none, differing-more, differing-low}
+use Rattle.judging.proofs.OneMore.{differing-none, differing-more, differing-low}
 use Rattle.judging.proofs.rows.differing_in.Statement.{statement}
 use Rattle.judging.proofs.rows.differing_in.Tie as tie
 
@@ -23,9 +22,16 @@ differs-at-requires c κs = search needs
 
 add-count : tie.Need-add-count Inv-loop μ-loop
 add-count c =
-    let a = c .before .before .before .args in
-    let l = c .before .before .loop in
-    omega (arith, differing-more (a .window .now) (a .goal) (l .column) (l .count) (c .differs-at .result) (l .inv .1) (c .differs-at .ensures), differing-low (a .window .now) (a .goal) (l .column + 1))
+    let start : tie.Start Inv-loop μ-loop = search in
+    let top : tie.At-loop Inv-loop μ-loop = search in
+    let a = start .args in
+    let l = top .loop in
+    omega (
+      arith,
+      differing-more (a .window .now) (a .goal) (l .column) (l .count) (c .differs-at .result) (l .inv .1)
+          (c .differs-at .ensures),
+      differing-low (a .window .now) (a .goal) (l .column + 1),
+    )
 
 add-column : tie.Need-add-column Inv-loop μ-loop
 add-column c = search needs
@@ -34,11 +40,14 @@ loop-less : tie.Need-loop-less Inv-loop μ-loop
 loop-less c = search needs
 
 loop-again : tie.Need-loop-again Inv-loop μ-loop
-loop-again c = (search needs, differing-more _ _ _ _ _ (c .before .before .loop .inv .1) (c .differs-at .ensures))
+loop-again c =
+    let top : tie.At-loop Inv-loop μ-loop = search in
+    (search needs, differing-more _ _ _ _ _ (top .loop .inv .1) (c .differs-at .ensures))
 
 returns : tie.Need-returns Inv-loop μ-loop
 returns c =
-    let a = c .before .before .args in
+    let start : tie.Start Inv-loop μ-loop = search in
+    let a = start .args in
     let e : c .before .loop .column ≡ a .width = omega arith in
     c .before .loop .inv .1 ∙ ap (differing (a .window .now) (a .goal)) e
 

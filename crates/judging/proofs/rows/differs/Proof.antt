@@ -1,5 +1,4 @@
 -- `judging::rows::differs` meets its contract: each return is one case of its two tests.
--- Assumes nothing.
 use mathlib.Core.Path.{sym, _∙_}
 use borrow.Author.Tests.{eq-eqb, ne-eqb}
 use Rattle.judging.specs.Window.{differsIn}

@@ -1,5 +1,4 @@
 -- `judging::rows::differs_at` meets its contract: it is the two it calls.
--- Assumes nothing.
 use mathlib.Core.Path.{ap, _∙_}
 use Prim.Native.Nat.{_+_}
 use borrow.Author.Needs.{needs}

@@ -1,5 +1,4 @@
 -- `judging::rows::first_differing` meets its contract. The invariant: none of the columns passed differs.
--- Assumes nothing.
 use mathlib.Core.Path.{_≡_, sym, _∙_}
 use Prim.Native.Nat.{ℕ, _-_, _≤_, _<_}
 use native.Mathlib.Omega.{arith}
@@ -23,7 +22,8 @@ differs-at-requires c κs = search needs
 
 returns : tie.Need-returns Inv-loop μ-loop
 returns c =
-    let l = c .before .before .before .loop in
+    let top : tie.At-loop Inv-loop μ-loop = search in
+    let l = top .loop in
     record { within = l .inv .0; before = l .inv .1; wrong = λ h e. c .if1 .taken (c .before .differs-at .ensures ∙ e) }
 
 add-column : tie.Need-add-column Inv-loop μ-loop
@@ -34,7 +34,8 @@ loop-less c = search needs
 
 loop-again : tie.Need-loop-again Inv-loop μ-loop
 loop-again c =
-    let l = c .before .before .before .loop in
+    let top : tie.At-loop Inv-loop μ-loop = search in
+    let l = top .loop in
     (search needs, below-more _ _ (l .inv .1) (sym (c .before .differs-at .ensures) ∙ c .if1 .left))
 
 returns-2 : tie.Need-returns-2 Inv-loop μ-loop

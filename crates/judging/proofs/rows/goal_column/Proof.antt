@@ -1,5 +1,4 @@
 -- `judging::rows::goal_column` meets its contract: each return is one case of the test.
--- Assumes nothing.
 use borrow.Author.Needs.{needs}
 use borrow.Author.Tests.{le-leb, lt-leb}
 use Rattle.judging.proofs.rows.goal_column.Statement.{statement}

@@ -1,8 +1,7 @@
 -- `judging::rows::judge_row` meets its contract: where as many as none differ, each is right.
--- Assumes nothing.
 use mathlib.Core.Path.{sym, _∙_}
 use borrow.Author.Needs.{needs}
-use Rattle.judging.proofs.Turns.{differing-zero, all-judged}
+use Rattle.judging.proofs.OneMore.{differing-zero, all-judged}
 use Rattle.judging.proofs.rows.judge_row.Statement.{statement}
 use Rattle.judging.proofs.rows.judge_row.Tie as tie
 

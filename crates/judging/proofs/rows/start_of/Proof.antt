@@ -1,5 +1,4 @@
 -- `judging::rows::start_of` meets its contract: each return is one case of the test.
--- Assumes nothing.
 use borrow.Author.Needs.{needs}
 use borrow.Author.Tests.{eq-eqb, ne-eqb}
 use Rattle.judging.proofs.rows.start_of.Statement.{statement}

@@ -1,40 +1,39 @@
 -- `printing::heads::head_of` meets its contract: each way out says what the first line does.
--- Assumes nothing.
-use Rattle.printing.specs.Inner.{Heads}
-use Rattle.printing.proofs.HeadLines.{read-sound, read-broken}
+use Rattle.printing.proofs.HeadLines.{long-head, short-input, read-sound, read-refused}
 use borrow.Author.Needs.{needs}
 use Rattle.printing.proofs.heads.head_of.Statement.{statement}
 use Rattle.printing.proofs.heads.head_of.Tie as tie
 
-returns : tie.Need-returns
-returns c = Heads.too-long (c .if1 .taken)
-
-read-requires : tie.Need-read-requires
-read-requires c κs = search needs
-
-enum-known-at : tie.Need-enum-known-at
-enum-known-at c = search needs
-
-enum-known-plan : tie.Need-enum-known-plan
-enum-known-plan c = search needs
+too-long : tie.Need-returns
+too-long c =
+    let t : tie.After-test-input = search in
+    let f : tie.After-enum-told2 = search in
+    long-head _ _ (t .test-input .ensures) _ _ (f .enum-told2 .given .1) (c .refusal-of .ensures)
 
 head-of-plan-requires : tie.Need-head-of-plan-requires
-head-of-plan-requires c κs = read-sound _ _ (c .before .before .before .before .if1 .left) (c .before .before .before .read .ensures) (c .before .plan .given .1)
+head-of-plan-requires c κs =
+    let s : tie.Start = search in
+    let t : tie.After-test-input = search in
+    let r : tie.After-read = search in
+    let p : tie.After-plan = search in
+    read-sound (r .read .result) _ (short-input (s .args .input .now) _ (t .test-input .ensures) (search)) (r .read .ensures) (p .plan .given .1)
 
-returns-2 : tie.Need-returns-2
-returns-2 c = read-broken _ _ (c .before .before .before .before .if1 .left) (c .before .before .before .read .ensures) (c .before .at .given .1)
-
-returns-3 : tie.Need-returns-3
-returns-3 c = search needs
+broken : tie.Need-returns-2
+broken c =
+    let s : tie.Start = search in
+    let t : tie.After-test-input = search in
+    let r : tie.After-read = search in
+    let f : tie.After-refusal = search in
+    read-refused (r .read .result) _ (short-input (s .args .input .now) _ (t .test-input .ensures) (search)) (r .read .ensures) (f .refusal .given .1)
 
 pub head-of-spec : {M : Type 1} → statement M
 head-of-spec =
     tie.close
     (tie.spec
-    returns
-    read-requires
-    enum-known-at
-    enum-known-plan
+    (λ c κs. search needs) (λ c. search needs) (λ c. search needs) (λ c κs. search needs) too-long
+    (λ c κs. search needs)
+    (λ c. search needs)
+    (λ c. search needs)
     head-of-plan-requires
-    returns-2
-    returns-3)
+    broken
+    (λ c. search needs))

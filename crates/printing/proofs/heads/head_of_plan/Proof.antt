@@ -1,62 +1,40 @@
--- `printing::heads::head_of_plan` meets its contract: the floor's refusal, or what the cell size says.
--- Assumes nothing.
+-- `printing::heads::head_of_plan` meets its contract: the first refusal that holds, or the floor.
 use native.Mathlib.Omega.{arith}
-use Rattle.floor.proofs.Tested.{floor-given, refusal-given}
-use Rattle.printing.proofs.HeadLines.{map-in, map-is, floor-refused, floor-passed}
+use Rattle.printing.proofs.HeadLines.{map-in, map-is, refused-head, passed-head, plan-head}
 use borrow.Author.Needs.{needs}
 use Rattle.printing.proofs.heads.head_of_plan.Statement.{statement}
 use Rattle.printing.proofs.heads.head_of_plan.Tie as tie
 
 add-end : tie.Need-add-end
-add-end c = omega (arith, map-in _ (c .before .before .pre), c .before .before .pre .small)
+add-end c =
+    let s : tie.Start = search in
+    omega (arith, map-in _ (s .pre), s .pre .small)
 
-sub-accept : tie.Need-sub-accept
-sub-accept c = search needs
+part-end : tie.Need-part-test-plan-end
+part-end c =
+    let s : tie.Start = search in
+    omega (arith, map-in _ (s .pre))
 
-part-accept-start : tie.Need-part-accept-start
-part-accept-start c = search needs
+refused : tie.Need-returns
+refused c =
+    let s : tie.Start = search in
+    let t : tie.After-test-plan = search in
+    let f : tie.After-enum-told2 = search in
+    plan-head _ (s .pre) _ (map-is _ (s .pre)) _ (t .test-plan .ensures) _ (refused-head _ _ _ _ (f .enum-told2 .given .1) (c .refusal-of .ensures))
 
-part-accept-end : tie.Need-part-accept-end
-part-accept-end c = omega (arith, map-in _ (c .before .before .pre))
-
-accept-requires : tie.Need-accept-requires
-accept-requires c κs = search needs
-
-enum-known-n : tie.Need-enum-known-n
-enum-known-n c = search needs
-
-cast-t12 : tie.Need-cast-t12
-cast-t12 c = search needs
-
-enum-told : tie.Need-enum-told
-enum-told c = search needs
-
-head-of-size-requires : tie.Need-head-of-size-requires
-head-of-size-requires c κs = search needs
-
-returns : tie.Need-returns
-returns c =
-    let p = c .before .before .before .before .before .before .before .pre in
-    let (e, some) = refusal-given _ _ _ (c .before .before .before .accept .ensures) (c .before .n .given .1) in
-    floor-refused _ p _ (map-is _ p) _ e some
-
-returns-2 : tie.Need-returns-2
-returns-2 c =
-    let p = c .before .before .before .before .before .before .before .pre in
-    floor-passed _ p _ (map-is _ p) (floor-given _ _ _ (c .before .before .before .accept .ensures) (c .before .enum-told .given .1) .unrefused) _ (c .head-of-size .ensures)
+floor : tie.Need-returns-2
+floor c =
+    let s : tie.Start = search in
+    let t : tie.After-test-plan = search in
+    plan-head _ (s .pre) _ (map-is _ (s .pre)) _ (t .test-plan .ensures) _ (passed-head (t .test-plan .result) _ (search))
 
 pub head-of-plan-spec : {M : Type 1} → statement M
 head-of-plan-spec =
     tie.close
     (tie.spec
     add-end
-    sub-accept
-    part-accept-start
-    part-accept-end
-    accept-requires
-    enum-known-n
-    cast-t12
-    enum-told
-    head-of-size-requires
-    returns
-    returns-2)
+    (λ c. search needs)
+    (λ c. search needs)
+    part-end
+    (λ c κs. search needs) (λ c. search needs) (λ c. search needs) (λ c κs. search needs) refused
+    floor)

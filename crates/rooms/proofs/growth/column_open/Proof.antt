@@ -1,5 +1,5 @@
--- `floor::growth::column_open` meets its contract. The loop's invariant: all rows from `top` up to `row` are open. The measure is what is left.
--- Assumes nothing.
+-- `rooms::growth::column_open` meets its contract. The loop's invariant: all rows from `top` up to `row` are open. The
+-- measure is what is left.
 use mathlib.Core.Path.{sym, _∙_}
 use Prim.Native.Nat.{_+_, _-_, _≤_}
 use native.Mathlib.Omega.{arith}

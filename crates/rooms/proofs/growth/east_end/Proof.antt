@@ -1,5 +1,5 @@
--- `floor::growth::east_end` meets its contract. The loop's invariant: all past the start up to `right` pass. The measure is what is left of the width.
--- Assumes nothing.
+-- `rooms::growth::east_end` meets its contract. The loop's invariant: all past the start up to `right` pass. The
+-- measure is what is left of the width.
 use mathlib.Core.Path.{sym, _∙_}
 use Prim.Native.Nat.{_+_, _-_, _≤_, _<_}
 use native.Mathlib.Omega.{arith}

@@ -1,5 +1,5 @@
--- `floor::growth::north_end` meets its contract. The loop's invariant: all from `top` up to the start pass. The measure is `top`.
--- Assumes nothing.
+-- `rooms::growth::north_end` meets its contract. The loop's invariant: all from `top` up to the start pass. The
+-- measure is `top`.
 use mathlib.Core.Path.{sym, _∙_}
 use Prim.Native.Nat.{_≤_}
 use native.Mathlib.Omega.{arith}

@@ -1,5 +1,5 @@
--- `floor::growth::south_end` meets its contract. The loop's invariant: all past the start up to `bottom` pass. The measure is what is left of the height.
--- Assumes nothing.
+-- `rooms::growth::south_end` meets its contract. The loop's invariant: all past the start up to `bottom` pass. The
+-- measure is what is left of the height.
 use mathlib.Core.Path.{sym, _∙_}
 use Prim.Native.Nat.{_+_, _-_, _≤_, _<_}
 use native.Mathlib.Omega.{arith}

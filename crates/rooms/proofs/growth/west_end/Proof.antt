@@ -1,5 +1,5 @@
--- `floor::growth::west_end` meets its contract. The loop's invariant: all from `left` up to the start pass. The measure is `left`.
--- Assumes nothing.
+-- `rooms::growth::west_end` meets its contract. The loop's invariant: all from `left` up to the start pass. The
+-- measure is `left`.
 use mathlib.Core.Path.{sym, _∙_}
 use Prim.Native.Nat.{_≤_}
 use native.Mathlib.Omega.{arith}
