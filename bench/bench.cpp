@@ -35,14 +35,14 @@ struct Compiled {
 
 constexpr Compiled BY_G =
 #ifdef WITH_G
-    {by_g::waves_fill, by_g::window_check, by_g::border_check};
+    {by_g::bands_fill, by_g::window_check, by_g::border_check};
 #else
     {};
 #endif
 
 constexpr Compiled BY_CLANG =
 #ifdef WITH_CLANG
-    {by_clang::waves_fill, by_clang::window_check, by_clang::border_check};
+    {by_clang::bands_fill, by_clang::window_check, by_clang::border_check};
 #else
     {};
 #endif
@@ -74,7 +74,7 @@ void agree(const Floor &floor, const Table &table) {
     for (const Compiled &peer : {BY_G, BY_CLANG}) {
         if (!peer.fill) continue;
         peer.fill(floor, other.data());
-        if (other != table) fail(floor, "the waves in C++ fill another table");
+        if (other != table) fail(floor, "the bands in C++ fill another table");
         for (const Table &t : {table, spoilt(table)}) {
             const ways_check_answer answer = library_check(floor, t);
             const std::size_t cell = answer.number == 0 ? floor.cells() : answer.cell;

@@ -2,11 +2,11 @@
 #pragma once
 #include "floors.hpp"
 
-// The library's own algorithms in C++, once for each compiler that is there: its fill by waves, and one pass over the cells with
+// The library's own algorithms in C++, once for each compiler that is there: its fill by bands, and one pass over the cells with
 // its arithmetic, through a window of three rows and over an array with a border, which give the first cell that differs.
 #define PEERS(name)                                                               \
     namespace name {                                                              \
-    void waves_fill(const Floor &floor, std::uint32_t *table);                    \
+    void bands_fill(const Floor &floor, std::uint32_t *table);                    \
     std::size_t window_check(const Floor &floor, const std::uint32_t *table);     \
     std::size_t border_check(const Floor &floor, const std::uint32_t *table);     \
     }

@@ -3,13 +3,13 @@
 use mathlib.Core.Path.{_≡_, sym, subst₂}
 use Prim.Native.Nat.{ℕ}
 use lib.Arith.{digits-lt}
-use Rattle.given.specs.declared.Tested.{Tested}
-use Rattle.given.specs.declared.Tested.the-variants.{Passed}
-use Rattle.given.specs.Refusing.{firstOf}
-use Rattle.given.proofs.Refusals.{AllPassed, all-passed, passed-all, has-passed}
+use Rattle.answers.specs.declared.Tested.{Tested}
+use Rattle.answers.specs.declared.Tested.the-variants.{Passed}
+use Rattle.answers.specs.Refusing.{firstOf}
+use Rattle.answers.proofs.Refusals.{AllPassed, all-passed, passed-all, has-passed}
 use Rattle.floor.specs.Floor.{Map, Open, Spot, spotCell}
 use Rattle.floor.specs.Tests.{placesTests, placesTested}
-use Rattle.floor.specs.Inner.{Fitting, Standing, OpenCell, Ready, Within}
+use Rattle.floor.specs.inner.Ready.{Fitting, Standing, OpenCell, Ready, Within}
 use Rattle.floor.proofs.Tested.{fits, stands, largest-low}
 use Rattle.calls.specs.Calls.{ToGoal, goalTests, Route, routeTests}
 use Rattle.steps.proofs.Grid.{cell, cell-column, cell-row}

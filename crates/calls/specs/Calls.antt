@@ -1,8 +1,8 @@
--- Document 01, "Numbers given back": what calls that take a table are asked, and their tests in their order.
+-- REFERENCE, "Numbers given back": what calls that take a table are asked, and their tests in their order.
 use mathlib.Core.List.{List, [], _∷_}
 use Prim.Native.Nat.{ℕ}
-use Rattle.given.specs.declared.Tested.{Tested}
-use Rattle.given.specs.Refusing.{refuse}
+use Rattle.answers.specs.declared.Tested.{Tested}
+use Rattle.answers.specs.Refusing.{refuse}
 use Rattle.floor.specs.Floor.{Map, Spot, mapOf, spotOf, largestSide}
 use Rattle.floor.specs.Refusals.{wrongTable, offFloor, closed}
 use Rattle.floor.specs.Tests.{floorTested, placesTested}
@@ -15,7 +15,7 @@ pub record ToGoal : Type 0 where
 abbrev pub toGoalOf : (width height : ℕ) (bytes : List ℕ) (column row : ℕ) → ToGoal
 toGoalOf width height bytes column row = record { map = mapOf width height bytes; goal = spotOf column row }
 
--- Fill: 1, 2, 3, 4, 6, 8. Check: the same, and 11
+-- the tests of filling and of checking
 unfoldable pub goalTests : ToGoal → (entries : ℕ) → List Tested
 goalTests a entries =
     floorTested largestSide (a .map)
@@ -34,7 +34,7 @@ abbrev pub routeOf : (width height : ℕ) (bytes : List ℕ) (from-column from-r
 routeOf width height bytes from-column from-row column row =
     record { map = mapOf width height bytes; start = spotOf from-column from-row; goal = spotOf column row }
 
--- Find a route: 1 to 10. Route from a table: 1 to 11
+-- the tests of both calls for a route, before the table is filled or checked
 unfoldable pub routeTests : Route → (entries : ℕ) → List Tested
 routeTests a entries =
     floorTested largestSide (a .map)

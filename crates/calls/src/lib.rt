@@ -1,10 +1,10 @@
 // The tests of calls that take a table: to a goal, and from a start to a goal.
 ghost use mathlib.Core.Path.{_≡_};
-ghost use Rattle.given.specs.Refusing.{firstOf};
+ghost use Rattle.answers.specs.Refusing.{firstOf};
 ghost use Rattle.calls.specs.Calls.{toGoalOf, goalTests, routeOf, routeTests};
+use answers::Tested;
 use floor::LARGEST_SIDE;
 use floor::links;
-use given::Tested;
 
 // The tests of filling and checking: 1, 2, 3, 4, 6, 8, in this order.
 pub fn test_goal(

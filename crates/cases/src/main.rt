@@ -1,4 +1,4 @@
-// The worked cases of the customer's document that are run, not proved: what the entry points answer is printed.
+// The worked cases that are run, not proved: what the entry points answer is printed.
 
 // Ends a line that says a number.
 fn say_number(label: &[u8], number: usize) {

@@ -5,8 +5,8 @@ use mathlib.Core.List.{List, [], _∷_}
 use Prim.Native.Nat.{ℕ, zero, suc, _<_}
 use native.Mathlib.Nat.{le-of-suc-le-suc, not-suc-le-zero}
 use lib.ListN.{length, getD}
-use Rattle.given.specs.Bools.{both}
-use Rattle.given.proofs.Bools.{both-true}
+use Rattle.answers.specs.Bools.{both}
+use Rattle.answers.proofs.Bools.{both-true}
 
 -- the test passes at each entry and its place
 abbrev pub every : {A : Type 0} → (ℕ → A → Bool) → List A → Bool

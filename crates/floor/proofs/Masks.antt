@@ -12,10 +12,10 @@ use lib.Pow.{shr-mod, pow-pos, shr-shr, shr-lt}
 use lib.ListN.{getD}
 use borrow.Author.Tests.{ne-eqb, eqb-true, eqb-false}
 use Rattle.floor.specs.Floor.{Map, bytesPerRow, blocked}
-use Rattle.given.specs.Bools.{someBelow}
+use Rattle.answers.specs.Bools.{someBelow}
 use Rattle.floor.specs.Refusals.{pastWidth}
 use Rattle.floor.proofs.Entries.{entry}
-use Rattle.given.proofs.Bools.{none-at, none-from, some-passes}
+use Rattle.answers.proofs.Bools.{none-at, none-from, some-passes}
 
 -- the code's masks
 unfoldable pub masks : List ℕ

@@ -10,15 +10,15 @@ use lib.Bits.{bitAnd, and-mask}
 use lib.Dec.{ltb, eqb}
 use lib.ListN.{length, getD}
 use Rattle.floor.specs.Floor.{Map, bytesPerRow, blocked, open?}
-use Rattle.floor.specs.Inner.{Sound}
-use Rattle.given.proofs.Bools.{both-true}
+use Rattle.floor.specs.inner.Ready.{SoundFloor}
+use Rattle.answers.proofs.Bools.{both-true}
 
 -- a floor's sides are small, so that no product of two numbers up to 128 wraps
 pub small : (a b : ℕ) → a ≤ 128 → b ≤ 128 → a * b ≤ 16384
 small a b p q = omega (arith, mul-le-mul p q)
 
 -- the byte of a row that a column before the row's end stands in lies in the map
-pub in-map : (m : Map) → Sound m → (row at : ℕ) → row < m .height → at < bytesPerRow (m .width) → row * bytesPerRow (m .width) + at < length (m .bytes)
+pub in-map : (m : Map) → SoundFloor m → (row at : ℕ) → row < m .height → at < bytesPerRow (m .width) → row * bytesPerRow (m .width) + at < length (m .bytes)
 in-map m sound row at high wide = subst (λ (n : ℕ). row * bytesPerRow (m .width) + at < n) (sym (sound .size)) (digits-lt high wide)
 
 -- a byte shifted to the cell's place and masked by 1 is the cell's bit

@@ -7,16 +7,16 @@ use native.Mathlib.Omega.{arith}
 use borrow.Author.Tests.{ltb-false, eqb-true, not-false}
 use lib.Dec.{ltb}
 use lib.ListN.{length}
-use Rattle.given.specs.declared.Tested.{Tested}
-use Rattle.given.specs.declared.Tested.the-variants.{Passed}
-use Rattle.given.specs.Bools.{either}
-use Rattle.given.specs.Refusing.{refuse}
-use Rattle.given.proofs.Bools.{either-false}
-use Rattle.given.proofs.Refusals.{all-passed, refuse-passed, has-passed}
+use Rattle.answers.specs.declared.Tested.{Tested}
+use Rattle.answers.specs.declared.Tested.the-variants.{Passed}
+use Rattle.answers.specs.Bools.{either}
+use Rattle.answers.specs.Refusing.{refuse}
+use Rattle.answers.proofs.Bools.{either-false}
+use Rattle.answers.proofs.Refusals.{all-passed, refuse-passed, has-passed}
 use Rattle.floor.specs.Floor.{Map, Spot, mapOf, bytesPerRow, open?, cells, largestSide}
 use Rattle.floor.specs.Refusals.{sidesOutside, wrongLength, wrongTable, closed}
 use Rattle.floor.specs.Tests.{floorTests, floorTested}
-use Rattle.floor.specs.Inner.{Low, Sided, Sound, Fitting, Standing}
+use Rattle.floor.specs.inner.Ready.{Low, Sided, SoundFloor, Fitting, Standing}
 use Rattle.floor.proofs.Reading.{open-on}
 
 pub sides-sided : (limit width height : ℕ) → sidesOutside limit width height ≡ false → Sided limit width height
@@ -41,7 +41,7 @@ module _ (limit : ℕ) (low : Low limit) where
       record { some-wide = s .some-wide; wide = omega arith; some-high = s .some-high; high = omega arith }
 
   -- 1 and 2 do not hold
-  length-sound : (m : Map) → sidesOutside limit (m .width) (m .height) ≡ false → wrongLength m ≡ false → Sound m
+  length-sound : (m : Map) → sidesOutside limit (m .width) (m .height) ≡ false → wrongLength m ≡ false → SoundFloor m
   unfolding wrongLength
   length-sound m sides size =
       let s = lower-sided (m .width) (m .height) sides in
@@ -54,7 +54,7 @@ module _ (limit : ℕ) (low : Low limit) where
       }
 
   -- no test of the floor refused
-  pub sound : (m : Map) → floorTested limit m ≡ Passed → Sound m
+  pub sound : (m : Map) → floorTested limit m ≡ Passed → SoundFloor m
   unfolding floorTested
   sound m e =
       let all = all-passed (floorTests limit m) e in
@@ -88,10 +88,10 @@ pub sides-asked : (limit width height : ℕ) (r : Tested) → r ≡ refuse 1 (si
 sides-asked limit width height r e p low = lower-sided limit low width height (refuse-passed 1 _ (has-passed r e p))
 
 pub length-asked : (limit : ℕ) (m : Map) (r q : Tested) → r ≡ refuse 1 (sidesOutside limit (m .width) (m .height)) → r ≡ Passed
-    → q ≡ refuse 2 (wrongLength m) → q ≡ Passed → Low limit → Sound m
+    → q ≡ refuse 2 (wrongLength m) → q ≡ Passed → Low limit → SoundFloor m
 length-asked limit m r q e p f s low = length-sound limit low m (refuse-passed 1 _ (has-passed r e p)) (refuse-passed 2 _ (has-passed q f s))
 
-pub floor-asked : (limit : ℕ) (m : Map) (r : Tested) → r ≡ floorTested limit m → r ≡ Passed → Low limit → Sound m
+pub floor-asked : (limit : ℕ) (m : Map) (r : Tested) → r ≡ floorTested limit m → r ≡ Passed → Low limit → SoundFloor m
 floor-asked limit m r e p low = sound limit low m (has-passed r e p)
 
 pub sided-asked : (limit width height : ℕ) (bytes : List ℕ) (r : Tested) → r ≡ floorTested limit (mapOf width height bytes) → r ≡ Passed → Low limit

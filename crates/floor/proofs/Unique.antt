@@ -2,8 +2,8 @@
 use mathlib.Core.Path.{_≡_, sym, _∙_, ap₂}
 use mathlib.Core.List.{[], _∷_}
 use Prim.Native.Nat.{ℕ}
-use Rattle.given.specs.Refusing.{done}
-use Rattle.given.proofs.Refusals.{never, answered-once}
+use Rattle.answers.specs.Refusing.{done}
+use Rattle.answers.proofs.Refusals.{never, answered-once}
 use Rattle.floor.specs.declared.Accepted.{Accepted}
 use Rattle.floor.specs.declared.Accepted.the-variants as accepted
 use Rattle.floor.specs.Answers.{acceptedGives}

@@ -1,7 +1,7 @@
--- What accepting a floor gives back, by the numbers of document 01.
+-- What accepting a floor gives back.
 use mathlib.Core.Path.{_≡_}
 use mathlib.Core.List.{[], _∷_}
-use Rattle.given.specs.Refusing.{Given, done, refused, Answered}
+use Rattle.answers.specs.Refusing.{Given, done, refused, Answered}
 use Rattle.floor.specs.declared.Accepted.{Accepted}
 use Rattle.floor.specs.declared.Accepted.the-variants as accepted
 use Rattle.floor.specs.Floor.{Map, largestSide}

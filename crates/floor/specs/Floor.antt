@@ -1,10 +1,10 @@
--- Document 01, "Floor": the map, its cells, and which of them are open.
+-- REFERENCE, "Floor": the map, its cells, and which of them are open.
 use mathlib.Core.Bool.{Bool, not}
 use mathlib.Core.List.{List}
 use Prim.Native.Nat.{ℕ, _+_, _*_, _/_, _%_, _^_}
 use lib.Dec.{T, ltb, eqb}
 use lib.ListN.{getD}
-use Rattle.given.specs.Bools.{both}
+use Rattle.answers.specs.Bools.{both}
 
 -- a floor has at most 128 columns and 128 rows
 abbrev pub largestSide : ℕ
@@ -19,15 +19,15 @@ pub record Map : Type 0 where
 abbrev pub mapOf : ℕ → ℕ → List ℕ → Map
 mapOf width height bytes = record { width = width; height = height; bytes = bytes }
 
--- a map row takes width divided by 8, rounded up, bytes
+-- how many bytes one row of the map has: a bit for each cell, and whole bytes
 abbrev pub bytesPerRow : ℕ → ℕ
 bytesPerRow width = (width + 7) / 8
 
--- in each byte bit 0, the least, is the leftmost of its eight cells
+-- bit k of a byte, counted from the least: it stands for the k-th of eight cells from the west
 abbrev pub bit : ℕ → ℕ → ℕ
 bit k byte = byte / 2 ^ k % 2
 
--- a set bit is a blocked cell
+-- whether the bit of a column and a row is set
 unfoldable pub blocked : Map → ℕ → ℕ → Bool
 blocked m column row = eqb (bit (column % 8) (getD (m .bytes) (row * bytesPerRow (m .width) + column / 8) 0)) 1
 
@@ -38,7 +38,7 @@ open? m column row = both (ltb column (m .width)) (both (ltb row (m .height)) (n
 abbrev pub Open : Map → ℕ → ℕ → Type 0
 Open m column row = T (open? m column row)
 
--- the cell number is row × width + column
+-- cells are numbered along the rows
 abbrev pub cellOf : Map → ℕ → ℕ → ℕ
 cellOf m column row = row * m .width + column
 

@@ -2,4 +2,4 @@ pub mod Floor
 pub mod Refusals
 pub mod Tests
 pub mod Answers
-pub mod Inner
+pub mod inner

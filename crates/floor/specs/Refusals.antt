@@ -1,24 +1,24 @@
--- Document 01, "Numbers given back", 1 to 8: the condition of each refusal.
+-- REFERENCE, "Numbers given back": the condition of each of 1 to 8.
 use mathlib.Core.Bool.{Bool, not}
 use Prim.Native.Nat.{ℕ, _+_, _-_, _*_}
 use lib.Dec.{ltb, eqb}
 use lib.ListN.{length}
-use Rattle.given.specs.Bools.{either, both, someBelow}
+use Rattle.answers.specs.Bools.{either, both, someBelow}
 use Rattle.floor.specs.Floor.{Map, bytesPerRow, blocked, open?, Spot}
 
--- 1: width or height outside 1 to the limit
+-- 1: a side that is 0 or above the limit
 unfoldable pub sidesOutside : (limit width height : ℕ) → Bool
 sidesOutside limit width height = either (either (ltb width 1) (ltb limit width)) (either (ltb height 1) (ltb limit height))
 
--- 2: map of the wrong length: it is exactly height × bytes-per-row long
+-- 2: the map has not the bytes of its rows
 unfoldable pub wrongLength : Map → Bool
 wrongLength m = not (eqb (length (m .bytes)) (m .height * bytesPerRow (m .width)))
 
--- 3: a bit past the width is set, in some row's last byte
+-- 3: some row has a set bit that stands for no cell
 unfoldable pub pastWidth : Map → Bool
 pastWidth m = someBelow (λ row. someBelow (λ k. blocked m (m .width + k) row) (8 * bytesPerRow (m .width) - m .width)) (m .height)
 
--- 4: table not width × height entries
+-- 4: not one entry for each cell
 unfoldable pub wrongTable : (width height entries : ℕ) → Bool
 wrongTable width height entries = not (eqb entries (height * width))
 

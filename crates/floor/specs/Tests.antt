@@ -1,9 +1,9 @@
--- Document 01, "Numbers given back": the tests of a floor, and those of a start and a goal, in their order. Calls name
--- each as one test of their own list.
+-- REFERENCE, "Numbers given back": the tests of a floor, and those of a start and a goal, in their order. Calls name
+-- each group as one test of their own list.
 use mathlib.Core.List.{List, [], _∷_}
 use Prim.Native.Nat.{ℕ}
-use Rattle.given.specs.declared.Tested.{Tested}
-use Rattle.given.specs.Refusing.{refuse, firstOf}
+use Rattle.answers.specs.declared.Tested.{Tested}
+use Rattle.answers.specs.Refusing.{refuse, firstOf}
 use Rattle.floor.specs.Floor.{Map, Spot}
 use Rattle.floor.specs.Refusals.{sidesOutside, wrongLength, pastWidth, offFloor, closed}
 

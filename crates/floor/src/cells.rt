@@ -2,11 +2,11 @@
 ghost use mathlib.Core.Path.{_≡_};
 ghost use Prim.Native.Nat.{_<_};
 ghost use Rattle.floor.specs.Floor.{mapOf, blocked, open?};
-ghost use Rattle.floor.specs.Inner.{Sound};
+ghost use Rattle.floor.specs.inner.Ready.{SoundFloor};
 
 // Whether the cell's bit is set: bit 0, the least, is the leftmost of its byte's eight cells.
 pub fn blocked_at(width: usize, height: usize, map: &[u8], column: usize, row: usize) -> bool
-    requires { ⌜ Sound (mapOf width height (now map)) ⌝ }
+    requires { ⌜ SoundFloor (mapOf width height (now map)) ⌝ }
     requires { ⌜ (column < width) × (row < height) ⌝ }
     ensures { λ r. ⌜ r ≡ blocked (mapOf width height (now (map .entry))) column row ⌝ }
 {
@@ -16,7 +16,7 @@ pub fn blocked_at(width: usize, height: usize, map: &[u8], column: usize, row: u
 
 // Whether the cell is on the floor and open.
 pub fn open_at(width: usize, height: usize, map: &[u8], column: usize, row: usize) -> bool
-    requires { ⌜ Sound (mapOf width height (now map)) ⌝ }
+    requires { ⌜ SoundFloor (mapOf width height (now map)) ⌝ }
     ensures { λ r. ⌜ r ≡ open? (mapOf width height (now (map .entry))) column row ⌝ }
 {
     if width <= column {

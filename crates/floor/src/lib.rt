@@ -1,8 +1,8 @@
 // The floor: accepting one, reading its cells, and the tests of floors and places.
 ghost use Rattle.floor.specs.Floor.{mapOf};
 ghost use Rattle.floor.specs.Answers.{Accepts};
-use given::Refusal;
-use given::Tested;
+use answers::Refusal;
+use answers::Tested;
 
 pub mod cells;
 pub mod links;
@@ -29,7 +29,7 @@ pub fn accept(width: usize, height: usize, map: &[u8]) -> Accepted
 {
     let tested = links::test_floor(LARGEST_SIDE, width, height, map);
     let Tested::Passed = tested else {
-        return Accepted::Refused(given::refusal_of(tested));
+        return Accepted::Refused(answers::refusal_of(tested));
     };
     Accepted::Floor(Sides { width, height })
 }

@@ -2,14 +2,14 @@
 // of a place.
 ghost use mathlib.Core.Path.{_≡_};
 ghost use Prim.Native.Nat.{_+_, _*_};
-ghost use Rattle.given.specs.Refusing.{refuse};
+ghost use Rattle.answers.specs.Refusing.{refuse};
 ghost use Rattle.floor.specs.Floor.{mapOf, largestSide, spotOf};
 ghost use Rattle.floor.specs.Refusals.{sidesOutside, wrongLength, pastWidth, wrongTable, offFloor, closed};
 ghost use Rattle.floor.specs.Tests.{floorTested, placesTested};
-ghost use Rattle.floor.specs.Inner.{Low, Sided, Sound, Within};
+ghost use Rattle.floor.specs.inner.Ready.{Low, Sided, SoundFloor, Within};
 use crate::cells;
 use crate::padding;
-use given::Tested;
+use answers::Tested;
 
 // 1: whether width or height is outside 1 to the limit.
 fn sides_outside(limit: usize, width: usize, height: usize) -> bool
@@ -30,7 +30,7 @@ fn sides_outside(limit: usize, width: usize, height: usize) -> bool
 fn test_sides(limit: usize, width: usize, height: usize) -> Tested
     ensures { λ r. ⌜ r ≡ refuse 1 (sidesOutside limit width height) ⌝ }
 {
-    given::refuse_if(1, sides_outside(limit, width, height))
+    answers::refuse_if(1, sides_outside(limit, width, height))
 }
 
 // 2: the map is exactly height × bytes-per-row long.
@@ -38,15 +38,15 @@ fn test_length(width: usize, height: usize, map: &[u8]) -> Tested
     requires { ⌜ Sided largestSide width height ⌝ }
     ensures { λ r. ⌜ r ≡ refuse 2 (wrongLength (mapOf width height (now (map .entry)))) ⌝ }
 {
-    given::refuse_if(2, map.len() != height * ((width + 7) / 8))
+    answers::refuse_if(2, map.len() != height * ((width + 7) / 8))
 }
 
 // 3: no bit past the width is set.
 fn test_padding(width: usize, height: usize, map: &[u8]) -> Tested
-    requires { ⌜ Sound (mapOf width height (now map)) ⌝ }
+    requires { ⌜ SoundFloor (mapOf width height (now map)) ⌝ }
     ensures { λ r. ⌜ r ≡ refuse 3 (pastWidth (mapOf width height (now (map .entry)))) ⌝ }
 {
-    given::refuse_if(3, padding::past_width(width, height, map))
+    answers::refuse_if(3, padding::past_width(width, height, map))
 }
 
 // 1, 2, 3, in this order, for a call that takes sides up to the limit.
@@ -74,7 +74,7 @@ pub fn test_table(width: usize, height: usize, entries: usize) -> Tested
     requires { ⌜ Sided largestSide width height ⌝ }
     ensures { λ r. ⌜ r ≡ refuse 4 (wrongTable width height entries) ⌝ }
 {
-    given::refuse_if(4, entries != height * width)
+    answers::refuse_if(4, entries != height * width)
 }
 
 // 5, 6: a place is on the floor.
@@ -82,9 +82,9 @@ pub fn test_on(number: u8, width: usize, height: usize, column: usize, row: usiz
     ensures { λ r. ⌜ r ≡ refuse number (offFloor width height (spotOf column row)) ⌝ }
 {
     if width <= column {
-        return given::refuse_if(number, true);
+        return answers::refuse_if(number, true);
     }
-    given::refuse_if(number, !(row < height))
+    answers::refuse_if(number, !(row < height))
 }
 
 // 7, 8: a place is open.
@@ -96,10 +96,10 @@ pub fn test_open(
     column: usize,
     row: usize,
 ) -> Tested
-    requires { ⌜ Sound (mapOf width height (now map)) ⌝ }
+    requires { ⌜ SoundFloor (mapOf width height (now map)) ⌝ }
     ensures { λ r. ⌜ r ≡ refuse number (closed (mapOf width height (now (map .entry))) (spotOf column row)) ⌝ }
 {
-    given::refuse_if(number, !cells::open_at(width, height, map, column, row))
+    answers::refuse_if(number, !cells::open_at(width, height, map, column, row))
 }
 
 // 5, 6, 7, 8, in this order.
@@ -112,7 +112,7 @@ pub fn test_places(
     goal_column: usize,
     goal_row: usize,
 ) -> Tested
-    requires { ⌜ Sound (mapOf width height (now map)) ⌝ }
+    requires { ⌜ SoundFloor (mapOf width height (now map)) ⌝ }
     ensures { λ r. ⌜ r ≡ placesTested (mapOf width height (now (map .entry))) (spotOf «start_column» «start_row») (spotOf «goal_column» «goal_row») ⌝ }
 {
     let start_on = test_on(5, width, height, start_column, start_row);

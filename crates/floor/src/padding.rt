@@ -4,7 +4,7 @@ ghost use Prim.Native.Nat.{_/_, _^_, _<_};
 ghost use lib.Dec.{eqb};
 ghost use Rattle.floor.specs.Floor.{mapOf};
 ghost use Rattle.floor.specs.Refusals.{pastWidth};
-ghost use Rattle.floor.specs.Inner.{Sound};
+ghost use Rattle.floor.specs.inner.Ready.{SoundFloor};
 
 // The masks of the bits from a place on in a byte.
 const PADDING: [u8; 8] = [255, 254, 252, 248, 240, 224, 192, 128];
@@ -19,7 +19,7 @@ fn clear_from(byte: u8, k: usize) -> bool
 
 // 3: whether a bit past the width is set, in some row's last byte.
 pub fn past_width(width: usize, height: usize, map: &[u8]) -> bool
-    requires { ⌜ Sound (mapOf width height (now map)) ⌝ }
+    requires { ⌜ SoundFloor (mapOf width height (now map)) ⌝ }
     ensures { λ r. ⌜ r ≡ pastWidth (mapOf width height (now (map .entry))) ⌝ }
 {
     let used = width % 8;

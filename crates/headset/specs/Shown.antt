@@ -2,8 +2,8 @@
 -- that this answer leaves out. A promise is the Rattle function's own.
 use mathlib.Core.Path.{_≡_}
 use Prim.Native.Nat.{ℕ}
-use Rattle.given.specs.declared.Tested.{Tested}
-use Rattle.given.specs.declared.Tested.the-variants as tested
+use Rattle.answers.specs.declared.Tested.{Tested}
+use Rattle.answers.specs.declared.Tested.the-variants as tested
 use Rattle.lengths.specs.declared.Length.{Length}
 use Rattle.lengths.specs.declared.Compared.{Compared}
 use Rattle.lengths.specs.declared.Compared.the-variants as compared
@@ -29,7 +29,7 @@ use Rattle.headset.specs.declared.QueryAnswer.{QueryAnswer}
 abbrev pub Shows : {A S : Type 0} → (A → S) → (A → Type 0) → S → Type 0
 Shows {A} shown Promise s = (a : A) × (s ≡ shown a) × Promise a
 
--- a length is a pair: straight steps, diagonal steps
+-- a length by its two parts
 abbrev pub lengthOf : ℕ → ℕ → Length
 lengthOf straight diagonal = record { straight = straight; diagonal = diagonal }
 
@@ -54,7 +54,7 @@ abbrev pub checkAnswer : Tested → CheckAnswer
 checkAnswer tested.Passed = record { number = 0; cell = 0 }
 checkAnswer (tested.Refused f) = record { number = f .number; cell = f .place }
 
--- a route's answer is a way, with its length and leg count, or a refusal with its number and place or count
+-- a way gives its length and how many legs it has
 abbrev pub routeAnswer : Answer → RouteAnswer
 routeAnswer (answer.Way w) =
     record { number = 0; place = 0; straight = w .length .straight; diagonal = w .length .diagonal; legs = w .legs }
@@ -65,8 +65,7 @@ abbrev pub roomAnswer : Roomed → RoomAnswer
 roomAnswer (roomed.Room r) = record { number = 0; left = r .left; top = r .top; right = r .right; bottom = r .bottom }
 roomAnswer (roomed.Refused f) = record { number = f .number; left = 0; top = 0; right = 0; bottom = 0 }
 
--- "width, height, cell size, the offset and length of the map's content, and the count of the queries with the offset
--- of the first one's record"; 14 comes with the offset of the break
+-- what the reader tells of a plan, or the offset of the break
 abbrev pub planAnswer : Reading → PlanAnswer
 planAnswer (reading.Sound p) =
     record {
@@ -93,7 +92,7 @@ planAnswer (reading.Refused f) =
       «first_query» = 0;
     }
 
--- a query's answer is start column, start row, goal column, goal row
+-- a query's four numbers
 abbrev pub queryAnswer : Asked → QueryAnswer
 queryAnswer (asked.Query q) =
     record { number = 0; «start_column» = q .«start_col»; «start_row» = q .«start_row»; «goal_column» = q .«goal_col»; «goal_row» = q .«goal_row» }

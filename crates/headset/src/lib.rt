@@ -12,7 +12,7 @@ ghost use Rattle.headset.specs.Shown.{Shows, lengthOf, compareAnswer, di
 ghost use Rattle.headset.specs.Shown.{routeAnswer, roomAnswer, planAnswer, queryAnswer};
 use lengths::Length;
 
-mod answers;
+mod structs;
 
 // Comparing: 1 for first shorter, 0 for first not shorter.
 #[repr(C)]
@@ -97,7 +97,7 @@ pub extern "C" fn ways_compare(
         straight: second_straight,
         diagonal: second_diagonal,
     };
-    answers::compare_answer(lengths::compare(first, second))
+    structs::compare_answer(lengths::compare(first, second))
 }
 
 // The distance spoken, in centimetres.
@@ -105,7 +105,7 @@ pub extern "C" fn ways_compare(
 pub extern "C" fn ways_distance(size: u32, straight: u32, diagonal: u32) -> DistanceAnswer
     ensures { λ r. ⌜ Shows distanceAnswer (Speaks size (lengthOf straight diagonal)) r ⌝ }
 {
-    answers::distance_answer(lengths::distance_spoken(size, Length { straight, diagonal }))
+    structs::distance_answer(lengths::distance_spoken(size, Length { straight, diagonal }))
 }
 
 // Filling a length table for the goal at a column and a row.
@@ -120,7 +120,7 @@ pub extern "C" fn ways_fill(
 ) -> usize
     ensures { λ r. ⌜ Shows numberOf (λ a. Fills (toGoalOf width height (now (map .entry)) column row) (now (table .entry)) a (now (table .exit))) r ⌝ }
 {
-    answers::number_of(table::fill(width, height, map, column, row, table))
+    structs::number_of(table::fill(width, height, map, column, row, table))
 }
 
 // Checking a table from anyone for the goal at a column and a row.
@@ -135,7 +135,7 @@ pub extern "C" fn ways_check(
 ) -> CheckAnswer
     ensures { λ r. ⌜ Shows checkAnswer (Checks (toGoalOf width height (now (map .entry)) column row) (now (table .entry))) r ⌝ }
 {
-    answers::check_answer(table::check(width, height, map, column, row, table))
+    structs::check_answer(table::check(width, height, map, column, row, table))
 }
 
 // Finding a route; the table is filled for its goal.
@@ -154,7 +154,7 @@ pub extern "C" fn ways_find_route(
     ensures { λ r. ⌜ Shows routeAnswer (λ a. Finds (routeOf width height (now (map .entry)) «from_column» «from_row» column row)
         (now (table .entry)) (now (legs .entry)) a (now (table .exit)) (now (legs .exit))) r ⌝ }
 {
-    answers::route_answer(route::find_route(
+    structs::route_answer(route::find_route(
         width,
         height,
         map,
@@ -183,7 +183,7 @@ pub extern "C" fn ways_route_from_table(
     ensures { λ r. ⌜ Shows routeAnswer (λ a. ReadsTable (routeOf width height (now (map .entry)) «from_column» «from_row» column row)
         (now (table .entry)) (now (legs .entry)) a (now (legs .exit))) r ⌝ }
 {
-    answers::route_answer(route::route_from_table(
+    structs::route_answer(route::route_from_table(
         width,
         height,
         map,
@@ -207,7 +207,7 @@ pub extern "C" fn ways_room(
 ) -> RoomAnswer
     ensures { λ r. ⌜ Shows roomAnswer (Rooms (mapOf width height (now (map .entry))) (spotOf column row)) r ⌝ }
 {
-    answers::room_answer(rooms::room_around(width, height, map, column, row))
+    structs::room_answer(rooms::room_around(width, height, map, column, row))
 }
 
 // What the bytes are as a plan.
@@ -215,7 +215,7 @@ pub extern "C" fn ways_room(
 pub extern "C" fn ways_read_plan(bytes: &[u8]) -> PlanAnswer
     ensures { λ r. ⌜ Shows planAnswer (Reads (now (bytes .entry))) r ⌝ }
 {
-    answers::plan_answer(plan::read(bytes))
+    structs::plan_answer(plan::read(bytes))
 }
 
 // The query whose record begins at an offset; 14 where the bytes end before the record does.
@@ -223,5 +223,5 @@ pub extern "C" fn ways_read_plan(bytes: &[u8]) -> PlanAnswer
 pub extern "C" fn ways_query(bytes: &[u8], at: usize) -> QueryAnswer
     ensures { λ r. ⌜ Shows queryAnswer (Asks (now (bytes .entry)) at) r ⌝ }
 {
-    answers::query_answer(plan::ask_query(bytes, at))
+    structs::query_answer(plan::ask_query(bytes, at))
 }

@@ -1,4 +1,4 @@
--- Keys order lengths as document 01 does, as long as the straight parts are below 19601, and a key gives its pair
+-- Keys are in the order of the lengths, as long as the straight parts are below 19601, and a key gives its pair
 -- back, as long as the diagonal part is below 13860.
 -- The idea: 19601² = 2 · 13860² + 1, so 19601 / 13860 is above √2 by very little. If p straight steps are more than r
 -- diagonal ones (p² ≥ 2r² + 1) and yet 13860 p ≤ 19601 r, then r ≥ 13860 and so p ≥ 19601.
@@ -9,7 +9,7 @@ use native.Mathlib.Decide.{decLe}
 use native.Mathlib.Omega.{arith}
 use Rattle.lengths.specs.declared.Length.{Length}
 use Rattle.lengths.specs.Order.{over, _⊑_}
-use Rattle.lengths.specs.Keys.{key, diagonalOf, pair}
+use Rattle.lengths.specs.inner.Keys.{key, diagonalOf, pair}
 use Rattle.lengths.proofs.Order.{length-ext, both-less, sq-zero, ⊑-antisym}
 
 -- p straight steps that are not more than r diagonal ones by key are not more by square

@@ -3,6 +3,6 @@ pub mod Rule
 pub mod Induction
 pub mod Rounding
 pub mod Tested
-pub mod WaysOut
+pub mod Exits
 pub mod Unique
 pub mod Keys

@@ -1,5 +1,4 @@
 -- The whole number nearest to m√2: there is only one, and a tie never occurs.
--- Assumes nothing.
 use mathlib.Core.Path.{_≡_, ap}
 use mathlib.Core.Logic.{_≢_}
 use Prim.Native.Nat.{ℕ, suc, _+_, _-_, _*_, _≤_, _<_}

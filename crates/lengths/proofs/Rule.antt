@@ -1,5 +1,4 @@
--- The order of lengths is document 01's rule: by the common sign of the differences, or by comparing p² with 2 × q².
--- Assumes nothing.
+-- The order of lengths is the sign of p + q√2: the one that p and q share, or that of the greater of p² and 2q².
 use mathlib.Core.Path.{_≡_}
 use mathlib.Core.Logic.{_↔_}
 use Prim.Native.Nat.{_-_, _*_, _≤_, _<_}
@@ -10,7 +9,7 @@ use Rattle.lengths.specs.declared.Length.{Length}
 use Rattle.lengths.specs.Order.{over, steps}
 use Rattle.lengths.proofs.Order.{_⊏_, sq-zero, both-less, not-⊏, ⊏-not, ⊑-antisym}
 
--- document 01's rule for p + q√2 < 0, with p and q the differences of the parts: by the common sign, or by comparing p² with 2 × q².
+-- p + q√2 is below 0, with p and q the differences of the parts: both are, or the square of the one that is counts more.
 pub data Rule (a b : Length) : Type 0 where
   common : a .straight ≤ b .straight → a .diagonal ≤ b .diagonal → steps a < steps b → Rule a b
   fewer-diagonal :

@@ -6,14 +6,14 @@ use native.Mathlib.Nat.{mul-le-mul}
 use native.Mathlib.Omega.{arith}
 use lib.Dec.{ltb}
 use borrow.Author.Tests.{ltb-false, le-ltb}
-use Rattle.given.specs.declared.Tested.{Tested}
-use Rattle.given.specs.declared.Tested.the-variants.{Passed}
-use Rattle.given.specs.Refusing.{firstOf}
-use Rattle.given.proofs.Bools.{either-false}
-use Rattle.given.proofs.Refusals.{all-passed, has-passed, refuse-passed}
+use Rattle.answers.specs.declared.Tested.{Tested}
+use Rattle.answers.specs.declared.Tested.the-variants.{Passed}
+use Rattle.answers.specs.Refusing.{firstOf}
+use Rattle.answers.proofs.Bools.{either-false}
+use Rattle.answers.proofs.Refusals.{all-passed, has-passed, refuse-passed}
 use Rattle.lengths.specs.declared.Length.{Length}
 use Rattle.lengths.specs.Answers.{wayPart, partAbove, sizeOutside, compareTests, distanceTests}
-use Rattle.lengths.specs.Inner.{AtMost, Within}
+use Rattle.lengths.specs.inner.AtMost.{AtMost, Within}
 
 -- the test of the parts, and their limits
 pub small-parts : (limit : ℕ) (l : Length) → partAbove limit l ≡ false → AtMost limit l

@@ -3,8 +3,8 @@ use mathlib.Core.Path.{_≡_, refl, sym, _∙_, ap}
 use mathlib.Core.List.{[], _∷_}
 use Prim.Native.Nat.{ℕ}
 use native.Mathlib.Omega.{arith}
-use Rattle.given.specs.Refusing.{Given, done}
-use Rattle.given.proofs.Refusals.{never, answered-once}
+use Rattle.answers.specs.Refusing.{Given, done}
+use Rattle.answers.proofs.Refusals.{never, answered-once}
 use Rattle.lengths.specs.declared.Length.{Length}
 use Rattle.lengths.specs.declared.Compared.{Compared}
 use Rattle.lengths.specs.declared.Compared.the-variants as compared

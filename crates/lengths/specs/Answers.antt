@@ -1,12 +1,12 @@
--- What comparing and the distance spoken give back, by the numbers of document 01.
+-- What comparing and the distance spoken give back.
 use mathlib.Core.Path.{_≡_}
 use mathlib.Core.Bool.{Bool}
 use mathlib.Core.List.{List, [], _∷_}
 use Prim.Native.Nat.{ℕ}
 use lib.Dec.{ltb}
-use Rattle.given.specs.declared.Tested.{Tested}
-use Rattle.given.specs.Bools.{pick, either}
-use Rattle.given.specs.Refusing.{Given, done, refused, refuse, firstOf, Answered}
+use Rattle.answers.specs.declared.Tested.{Tested}
+use Rattle.answers.specs.Bools.{pick, either}
+use Rattle.answers.specs.Refusing.{Given, done, refused, refuse, firstOf, Answered}
 use Rattle.lengths.specs.declared.Length.{Length}
 use Rattle.lengths.specs.declared.Compared.{Compared}
 use Rattle.lengths.specs.declared.Compared.the-variants as compared
@@ -15,7 +15,7 @@ use Rattle.lengths.specs.declared.Distance.the-variants as distance
 use Rattle.lengths.specs.Order.{shorter}
 use Rattle.lengths.specs.Distance.{Spoken}
 
--- "Each part is 0 to 16,383; a shortest way on the largest floor has no more steps than that"
+-- the limit of a part: no shortest way on any floor has more steps
 abbrev pub wayPart : ℕ
 wayPart = 16383
 
@@ -23,7 +23,7 @@ wayPart = 16383
 unfoldable pub partAbove : ℕ → Length → Bool
 partAbove limit l = either (ltb limit (l .straight)) (ltb limit (l .diagonal))
 
--- 13: cell size outside 1 to 1,000
+-- 13: a cell of no width, or wider than ten metres
 unfoldable pub sizeOutside : ℕ → Bool
 sizeOutside size = either (ltb size 1) (ltb 1000 size)
 

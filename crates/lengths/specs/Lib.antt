@@ -1,5 +1,4 @@
 pub mod Order
 pub mod Distance
 pub mod Answers
-pub mod Inner
-pub mod Keys
+pub mod inner

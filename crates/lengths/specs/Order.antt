@@ -1,5 +1,4 @@
--- Document 01, "Lengths": a length is a pair, straight steps and diagonal steps. It stands for straight + diagonal × √2.
--- Assumes nothing.
+-- REFERENCE, "Lengths": the order of lengths. A pair of counts weighs straight + diagonal × √2.
 use mathlib.Core.Bool.{Bool}
 use Prim.Native.Nat.{ℕ, _+_, _-_, _*_, _≤_}
 use lib.Dec.{ltb}
@@ -16,11 +15,11 @@ _⊕_ a b = record { straight = a .straight + b .straight; diagonal = a .diagona
 abbrev pub steps : Length → ℕ
 steps a = a .straight + a .diagonal
 
--- what a has over b: p² + 2 × q², with p and q the differences of the parts where a's are above b's, and 0 where they are not
+-- what a has over b: p² + 2q², where p and q are what its parts have more than b's, and 0 where they have not more
 unfoldable pub over : Length → Length → ℕ
 over a b = (a .straight - b .straight) * (a .straight - b .straight) + 2 * ((a .diagonal - b .diagonal) * (a .diagonal - b .diagonal))
 
--- a is not longer than b. That this is document 01's rule for the sign of p + q√2 is proved in proofs/Rule
+-- a is not longer than b. That this is the sign of p + q√2 is proved in proofs/Rule
 pub record _⊑_ (a b : Length) : Type 0 where
   pub le : over a b ≤ over b a
 

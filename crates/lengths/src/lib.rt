@@ -2,13 +2,13 @@
 // straight + diagonal × √2; it is compared and rounded exactly, over whole numbers.
 ghost use mathlib.Core.Path.{_≡_};
 ghost use Prim.Native.Nat.{_+_, _*_, _-_, _≤_};
-ghost use Rattle.given.specs.Refusing.{refuse, firstOf};
+ghost use Rattle.answers.specs.Refusing.{refuse, firstOf};
 ghost use Rattle.lengths.specs.Order.{over, shorter as shorterOf};
 ghost use Rattle.lengths.specs.Distance.{Nearest};
 ghost use Rattle.lengths.specs.Answers.{wayPart, partAbove, sizeOutside, compareTests, Compares, distanceTests, Speaks};
-ghost use Rattle.lengths.specs.Inner.{Within};
-use given::Refusal;
-use given::Tested;
+ghost use Rattle.lengths.specs.inner.AtMost.{Within};
+use answers::Refusal;
+use answers::Tested;
 
 // A length: straight steps, diagonal steps.
 pub struct Length {
@@ -43,9 +43,9 @@ fn test_parts(limit: u32, l: Length) -> Tested
     ensures { λ r. ⌜ r ≡ refuse 12 (partAbove limit l) ⌝ }
 {
     if limit < l.straight {
-        return given::refuse_if(12, true);
+        return answers::refuse_if(12, true);
     }
-    given::refuse_if(12, limit < l.diagonal)
+    answers::refuse_if(12, limit < l.diagonal)
 }
 
 // 13: the cell size is 1 to 1,000.
@@ -53,9 +53,9 @@ pub fn test_size(size: usize) -> Tested
     ensures { λ r. ⌜ r ≡ refuse 13 (sizeOutside size) ⌝ }
 {
     if size < 1 {
-        return given::refuse_if(13, true);
+        return answers::refuse_if(13, true);
     }
-    given::refuse_if(13, 1000 < size)
+    answers::refuse_if(13, 1000 < size)
 }
 
 // 12 of either length.
@@ -127,7 +127,7 @@ pub fn compare(a: Length, b: Length) -> Compared
 {
     let tested = test_lengths(a, b);
     let Tested::Passed = tested else {
-        return Compared::Refused(given::refusal_of(tested));
+        return Compared::Refused(answers::refusal_of(tested));
     };
     if shorter(a, b) {
         return Compared::Shorter;
@@ -161,7 +161,7 @@ pub fn distance_spoken(size: u32, l: Length) -> Distance
 {
     let tested = test_distance(size, l);
     let Tested::Passed = tested else {
-        return Distance::Refused(given::refusal_of(tested));
+        return Distance::Refused(answers::refusal_of(tested));
     };
     let part = nearest(size as u64 * l.diagonal as u64);
     Distance::Centimetres(size * l.straight + part as u32)

@@ -16,7 +16,7 @@ use Rattle.plan.specs.Break.{Wrong, Fixed, Any, Broken}
 use Rattle.plan.specs.Break.Wrong.{cut-off}
 use Rattle.plan.specs.Break.Broken.{at-floor, at-map, at-size, at-query}
 use Rattle.plan.specs.Reads.{planOf, brokenAt}
-use Rattle.plan.specs.Steps.{contentAt, recordAt, fixedRecordAt, countFrom, endAt, afterEnd, afterQueries, afterSize, afterMap, afterFloor, readingOf}
+use Rattle.plan.specs.inner.Steps.{contentAt, recordAt, fixedRecordAt, countFrom, endAt, afterEnd, afterQueries, afterSize, afterMap, afterFloor, readingOf}
 use Rattle.plan.proofs.Numbers.{number-read}
 use Rattle.plan.proofs.Chain.{right-read, wrong-read, found-at, found-fixed-at, next-rest}
 use Rattle.plan.proofs.Queries.{count-right}

@@ -8,10 +8,10 @@ use native.Mathlib.Decide.{decLe}
 use lib.Dec.{ltb}
 use lib.ListN.{length}
 use borrow.Author.Tests.{ltb-false, lt-ltb, le-ltb}
-use Rattle.given.specs.declared.Tested.{Tested}
-use Rattle.given.specs.declared.Tested.the-variants.{Passed}
-use Rattle.given.specs.Refusing.{refuse}
-use Rattle.given.proofs.Refusals.{has-passed, refuse-passed, work-done}
+use Rattle.answers.specs.declared.Tested.{Tested}
+use Rattle.answers.specs.declared.Tested.the-variants.{Passed}
+use Rattle.answers.specs.Refusing.{refuse}
+use Rattle.answers.proofs.Refusals.{has-passed, refuse-passed, work-done}
 use Rattle.plan.specs.declared.Query.{Query}
 use Rattle.plan.specs.declared.Asked.the-variants as asked
 use Rattle.plan.specs.Reads.{queryAt, askedGives, recordPast, Asks}

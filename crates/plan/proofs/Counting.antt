@@ -1,5 +1,4 @@
 -- The loop that counts queries: what holds at each turn.
--- Assumes nothing.
 use mathlib.Core.Path.{_≡_, sym, _∙_, ap}
 use mathlib.Core.List.{List}
 use Prim.Native.Nat.{ℕ, zero, suc, _+_, _-_, _<_, _≤_}
@@ -9,7 +8,7 @@ use Rattle.plan.specs.declared.Content.{Content}
 use Rattle.plan.specs.declared.Record.{Record}
 use Rattle.plan.specs.declared.Record.the-variants.{Read, Broken}
 use Rattle.plan.specs.Break.{Fixed}
-use Rattle.plan.specs.Steps.{fixedRecordAt, andMore, countFrom}
+use Rattle.plan.specs.inner.Steps.{fixedRecordAt, andMore, countFrom}
 use Rattle.plan.proofs.Chain.{lies, found-fixed-at}
 
 -- no more than are wanted are counted

@@ -1,5 +1,4 @@
 -- A plan's records joined: how long they are, and what stands behind each.
--- Assumes nothing.
 use mathlib.Core.Path.{_≡_, refl, ap}
 use mathlib.Core.List.{List, [], _∷_, _++_, append-assoc}
 use Prim.Native.Nat.{ℕ, _+_, _*_}

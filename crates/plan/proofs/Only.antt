@@ -4,7 +4,7 @@ use mathlib.Core.List.{List, [], _∷_}
 use Prim.Native.Nat.{ℕ}
 use native.Mathlib.Omega.{arith}
 use lib.ListN.{length, getD, take, drop}
-use Rattle.given.specs.Refusing.{Given, done, refused}
+use Rattle.answers.specs.Refusing.{Given, done, refused}
 use Rattle.plan.specs.declared.Query.{Query}
 use Rattle.plan.specs.declared.Plan.{Plan}
 use Rattle.plan.specs.declared.Reading.{Reading}
@@ -13,7 +13,7 @@ use Rattle.plan.specs.Records.{queryRecords}
 use Rattle.plan.specs.Sound.{Contents, Sound}
 use Rattle.plan.specs.Break.{Broken}
 use Rattle.plan.specs.Reads.{planOf, readingGives, Reads}
-use Rattle.plan.specs.Steps.{readingOf}
+use Rattle.plan.specs.inner.Steps.{readingOf}
 use Rattle.plan.proofs.Queries.{query-here}
 use Rattle.plan.proofs.Places.{map-there, queries-there}
 use Rattle.plan.proofs.Answers.{sound-read, broken-read}

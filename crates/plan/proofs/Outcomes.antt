@@ -13,19 +13,19 @@ use Rattle.plan.specs.declared.Reading.the-variants as reading
 use Rattle.plan.specs.Records.{numberIn}
 use Rattle.plan.specs.Break.{Fixed, Any}
 use Rattle.plan.specs.Reads.{readingGives, brokenAt, Reads}
-use Rattle.plan.specs.Steps.{recordAt, fixedRecordAt, countFrom, endAt, afterEnd, afterQueries, afterSize, afterMap, afterFloor, readingOf}
+use Rattle.plan.specs.inner.Steps.{recordAt, fixedRecordAt, countFrom, endAt, afterEnd, afterQueries, afterSize, afterMap, afterFloor, readingOf}
 use Rattle.plan.proofs.Numbers.{Bytes}
 use Rattle.plan.proofs.Chain.{Lies, lies, found-at, found-fixed-at}
 use Rattle.plan.proofs.Answers.{sound-read, broken-read}
-use Rattle.plan.proofs.Total.{Judged, judge}
+use Rattle.plan.proofs.Total.{Told, judge}
 
 -- the steps' answer is what the reader is to give
 answered : (bytes : List ℕ) → Bytes bytes → (r : Reading) → readingOf bytes ≡ r → Reads bytes r
 answered bytes b r e = go (judge bytes b)
   where
-    go : Judged bytes → Reads bytes r
-    go (Judged.sound c s) = Reads.sound c s (ap readingGives (sym e ∙ sound-read bytes c s))
-    go (Judged.broken at k) = Reads.broken at k (ap readingGives (sym e ∙ broken-read bytes at k))
+    go : Told bytes → Reads bytes r
+    go (Told.sound c s) = Reads.sound c s (ap readingGives (sym e ∙ sound-read bytes c s))
+    go (Told.broken at k) = Reads.broken at k (ap readingGives (sym e ∙ broken-read bytes at k))
 
 -- what is known once the first record is read, then the second, then the third
 pub record FloorRead (bytes : List ℕ) (floor : Content) : Type 0 where

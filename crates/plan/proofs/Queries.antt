@@ -1,5 +1,4 @@
 -- Queries one after another: how many are counted where so many stand, and where each of them is.
--- Assumes nothing.
 use mathlib.Core.Path.{_≡_, refl, sym, _∙_, ap}
 use mathlib.Core.List.{List, [], _∷_, _++_}
 use Prim.Native.Nat.{ℕ, zero, suc, _+_, _*_, _<_, _≤_}
@@ -10,7 +9,7 @@ use Rattle.plan.specs.declared.Query.{Query}
 use Rattle.plan.specs.Records.{numberIn, queryContent, queryRecord, queryRecords}
 use Rattle.plan.specs.Break.{Wrong, Fixed}
 use Rattle.plan.specs.Reads.{queryAt}
-use Rattle.plan.specs.Steps.{andMore, countFrom}
+use Rattle.plan.specs.inner.Steps.{andMore, countFrom}
 use Rattle.plan.proofs.Numbers.{number-read}
 use Rattle.plan.proofs.Chain.{right-read, wrong-read, found-fixed-at, next-rest}
 

@@ -2,8 +2,8 @@
 use mathlib.Core.Path.{_≡_, sym, _∙_}
 use mathlib.Core.List.{List, [], _∷_}
 use Prim.Native.Nat.{ℕ}
-use Rattle.given.specs.Refusing.{done}
-use Rattle.given.proofs.Refusals.{never, answered-once}
+use Rattle.answers.specs.Refusing.{done}
+use Rattle.answers.proofs.Refusals.{never, answered-once}
 use Rattle.plan.specs.declared.Asked.{Asked}
 use Rattle.plan.specs.declared.Asked.the-variants as asked
 use Rattle.plan.specs.Reads.{askedGives, Asks}

@@ -1,5 +1,4 @@
 -- What each way out of the functions that read one record shows: one law for each, over the definitions alone.
--- Assumes nothing.
 use mathlib.Core.Path.{_≡_, sym, _∙_, ap}
 use mathlib.Core.List.{List}
 use Prim.Native.Nat.{ℕ, _+_, _-_, _<_, _≤_}
@@ -13,7 +12,7 @@ use Rattle.plan.specs.declared.Record.the-variants.{Read, Broken}
 use Rattle.plan.specs.Records.{numberIn, kindIn}
 use Rattle.plan.specs.Break.{Wrong, Any}
 use Rattle.plan.specs.Break.Wrong.{cut-off, wrong-kind}
-use Rattle.plan.specs.Steps.{contentAt, recordAt, ofLength, fixedRecordAt}
+use Rattle.plan.specs.inner.Steps.{contentAt, recordAt, ofLength, fixedRecordAt}
 use Rattle.plan.proofs.Chain.{whole-read, wrong-read, found-at}
 
 module _ (bytes : List ℕ) (at kind : ℕ) where

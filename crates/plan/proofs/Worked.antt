@@ -1,4 +1,4 @@
--- The input that document 01 gives under 'What "ways" prints', as a plan.
+-- The plan of REFERENCE, "Plans", as bytes.
 use mathlib.Core.Path.{refl}
 use mathlib.Core.List.{List, [], _∷_}
 use Prim.Native.Nat.{ℕ}

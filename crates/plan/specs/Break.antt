@@ -1,5 +1,4 @@
--- Document 01, "Plan": the place of a break.
--- Assumes nothing.
+-- REFERENCE, "Plans": where a plan breaks.
 use mathlib.Core.Path.{_≡_}
 use mathlib.Core.List.{List, [], _++_}
 use Prim.Native.Nat.{ℕ, _+_, _<_}
@@ -14,8 +13,8 @@ Fixed n m = m ≡ n
 abbrev pub Any : ℕ → Type 0
 Any m = Unit {0}
 
--- the record that should begin the rest is "cut off, of the wrong kind or wrong fixed length": it is cut off where fewer bytes are left
--- than the header's 4 and those of the content that it states, and where none are left it is missing
+-- the record that should begin the rest is none such: it is cut off where fewer bytes are left than the header's 4 and
+-- those of the content that it states, and where none are left it is missing
 pub data Wrong (kind : ℕ) (Takes : ℕ → Type 0) (rest : List ℕ) : Type 0 where
   cut-off : length rest < 4 + lengthIn rest → Wrong kind Takes rest
   wrong-kind : (kindIn rest ≡ kind → ⊥) → Wrong kind Takes rest
@@ -33,8 +32,8 @@ pub record Extra (c : Contents) (rest : List ℕ) : Type 0 where
   pub more : 0 < length rest
   pub no-query : length (c .queries) < 64 → Wrong 4 (Fixed 8) rest
 
--- "The place of a break is the offset of the first record that is cut off, of the wrong kind or wrong fixed length, or the 65th query;
--- if a needed record is missing, the end": right records come before it, and the end is where a missing one should begin
+-- where a plan breaks: right records come before it, and what should begin there is wrong; a record that is missing
+-- should have begun at the end
 pub data Broken (bytes : List ℕ) (at : ℕ) : Type 0 where
   at-floor : After [] (Wrong 1 (Fixed 4)) bytes at → Broken bytes at
   at-map : (width height : ℕ) → After (floorRecord width height) (Wrong 2 Any) bytes at → Broken bytes at

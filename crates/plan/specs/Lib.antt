@@ -2,4 +2,4 @@ pub mod Records
 pub mod Sound
 pub mod Break
 pub mod Reads
-pub mod Steps
+pub mod inner

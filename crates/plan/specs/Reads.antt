@@ -1,11 +1,11 @@
--- Document 01, "Plan" and "Numbers given back": what the reader gives back.
+-- REFERENCE, "Plans": what the reader gives back.
 use mathlib.Core.Path.{_≡_}
 use mathlib.Core.Bool.{Bool}
 use mathlib.Core.List.{List, [], _∷_}
 use Prim.Native.Nat.{ℕ, _+_}
 use lib.Dec.{ltb}
 use lib.ListN.{length, drop}
-use Rattle.given.specs.Refusing.{Given, done, refused, refuse, Answered}
+use Rattle.answers.specs.Refusing.{Given, done, refused, refuse, Answered}
 use Rattle.plan.specs.declared.Plan.{Plan}
 use Rattle.plan.specs.declared.Query.{Query}
 use Rattle.plan.specs.declared.Reading.{Reading}
@@ -16,9 +16,7 @@ use Rattle.plan.specs.Records.{numberIn}
 use Rattle.plan.specs.Sound.{Contents, Sound, mapAt, firstQuery}
 use Rattle.plan.specs.Break.{Broken}
 
--- "For a sound plan the reader answers width, height, cell size, the offset and length of the map's content, and the
--- count of the queries with the offset of the first one's record, or the end if there is none; it does not judge the
--- numbers"
+-- what the reader tells of a sound plan: its numbers as they stand, and where its map and its queries lie
 abbrev pub planOf : Contents → Plan
 planOf c =
     record {
@@ -31,21 +29,13 @@ planOf c =
       «first_query» = firstQuery c;
     }
 
--- a plan's answer is these numbers in that order, or a refusal
+-- these numbers in this order, or the refusal
 abbrev pub readingGives : Reading → Given
 readingGives (reading.Sound p) =
-    done
-    (p .width
-    ∷ p .height
-    ∷ p .size
-    ∷ p .«map_at»
-    ∷ p .«map_len»
-    ∷ p .queries
-    ∷ p .«first_query»
-    ∷ [])
+    done (p .width ∷ p .height ∷ p .size ∷ p .«map_at» ∷ p .«map_len» ∷ p .queries ∷ p .«first_query» ∷ [])
 readingGives (reading.Refused f) = refused f
 
--- 14, "plan broken", with the offset
+-- 14, with the offset of the break
 abbrev pub brokenAt : ℕ → Reading
 brokenAt at = reading.Refused (record { number = 14; place = at })
 
@@ -64,7 +54,7 @@ queryAt bytes at =
       «goal_row» = numberIn (drop (at + 10) bytes);
     }
 
--- a query's answer is start column, start row, goal column, goal row, or a refusal
+-- a query gives the four numbers of its record
 abbrev pub askedGives : Asked → Given
 askedGives (asked.Query q) = done (q .«start_col» ∷ q .«start_row» ∷ q .«goal_col» ∷ q .«goal_row» ∷ [])
 askedGives (asked.Refused f) = refused f

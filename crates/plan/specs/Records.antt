@@ -1,11 +1,10 @@
--- Document 01, "Plan": the records that a plan is joined from, as bytes.
--- Assumes nothing.
+-- REFERENCE, "Plans": the records that a plan is joined from, as bytes.
 use mathlib.Core.List.{List, [], _∷_, _++_}
 use Prim.Native.Nat.{ℕ, _+_, _*_, _/_, _%_}
 use lib.ListN.{length, getD, drop}
 use Rattle.plan.specs.declared.Query.{Query}
 
--- "all numbers little-endian": a number in 2 bytes, the least first
+-- a number in 2 bytes, the low one first
 abbrev pub number : ℕ → List ℕ
 number n = n % 256 ∷ n / 256 ∷ []
 
@@ -13,7 +12,7 @@ number n = n % 256 ∷ n / 256 ∷ []
 unfoldable pub numberIn : List ℕ → ℕ
 numberIn bytes = getD bytes 0 0 + 256 * getD bytes 1 0
 
--- "Records: content length in 2 bytes, kind in 2 bytes, content"
+-- a record: how long its content is, its kind, and the content
 abbrev pub recordOf : ℕ → List ℕ → List ℕ
 recordOf kind content = number (length content) ++ number kind ++ content
 
@@ -25,19 +24,19 @@ lengthIn bytes = numberIn bytes
 abbrev pub kindIn : List ℕ → ℕ
 kindIn bytes = numberIn (drop 2 bytes)
 
--- "Kind 1: width, height (2 bytes each)"
+-- kind 1: the sides
 abbrev pub floorRecord : ℕ → ℕ → List ℕ
 floorRecord width height = recordOf 1 (number width ++ number height)
 
--- "Kind 2: the map"
+-- kind 2: the map's bytes
 abbrev pub mapRecord : List ℕ → List ℕ
 mapRecord map = recordOf 2 map
 
--- "Kind 3: cell size (2 bytes)"
+-- kind 3: the cell size
 abbrev pub sizeRecord : ℕ → List ℕ
 sizeRecord size = recordOf 3 (number size)
 
--- "Kind 4: a query, start column, start row, goal column, goal row (2 bytes each)"
+-- kind 4: a query, from a column and row to a column and row
 abbrev pub queryContent : Query → List ℕ
 queryContent q = number (q .«start_col») ++ number (q .«start_row») ++ number (q .«goal_col») ++ number (q .«goal_row»)
 

@@ -1,5 +1,4 @@
--- Document 01, "Plan": what a sound plan is. Its records, joined in their order, are the bytes.
--- Assumes nothing.
+-- REFERENCE, "Plans": what a sound plan is. Its records, joined in their order, are the bytes.
 use mathlib.Core.Path.{_≡_}
 use mathlib.Core.List.{List, _++_}
 use Prim.Native.Nat.{ℕ, _+_, _≤_}
@@ -15,12 +14,12 @@ pub record Contents : Type 0 where
   pub size : ℕ
   pub queries : List Query
 
--- "One each of kinds 1, 2, 3 in this order, then .. of kind 4, then the end"
+-- the three records that come once, then the queries, and nothing behind them
 abbrev pub planBytes : Contents → List ℕ
 planBytes c =
     floorRecord (c .width) (c .height) ++ (mapRecord (c .map) ++ (sizeRecord (c .size) ++ queryRecords (c .queries)))
 
--- a sound plan with these contents: "0 to 64 of kind 4"; bytes are below 256, so its numbers are below 65,536
+-- a sound plan with these contents; bytes are below 256, so its numbers are below 65,536
 pub record Sound (bytes : List ℕ) (c : Contents) : Type 0 where
   pub joined : bytes ≡ planBytes c
   pub few : length (c .queries) ≤ 64
@@ -29,6 +28,6 @@ pub record Sound (bytes : List ℕ) (c : Contents) : Type 0 where
 abbrev pub mapAt : Contents → ℕ
 mapAt c = length (floorRecord (c .width) (c .height)) + 4
 
--- the offset of the first query's record, "or the end if there is none": behind the three records before it
+-- where the first query's record begins: behind the three records before it, which is the end where there is none
 abbrev pub firstQuery : Contents → ℕ
 firstQuery c = length (floorRecord (c .width) (c .height)) + length (mapRecord (c .map)) + length (sizeRecord (c .size))

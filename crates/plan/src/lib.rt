@@ -1,14 +1,14 @@
-// The plan reader of document 01, section "Plan": any bytes are read as a chain of records, and the answer is what a
+// The plan reader (REFERENCE, "Plans"): any bytes are read as a chain of records, and the answer is what a
 // sound plan holds and where, or the place of the break.
 ghost use mathlib.Core.Path.{_≡_};
 ghost use Prim.Native.Nat.{_+_, _≤_};
 ghost use lib.ListN.{length, drop};
-ghost use Rattle.given.specs.Refusing.{refuse};
+ghost use Rattle.answers.specs.Refusing.{refuse};
 ghost use Rattle.plan.specs.Records.{numberIn};
 ghost use Rattle.plan.specs.Reads.{brokenAt, Reads, queryAt, recordPast, Asks};
-ghost use Rattle.plan.specs.Steps.{recordAt, fixedRecordAt, countFrom, endAt};
-use given::Refusal;
-use given::Tested;
+ghost use Rattle.plan.specs.inner.Steps.{recordAt, fixedRecordAt, countFrom, endAt};
+use answers::Refusal;
+use answers::Tested;
 
 // What a sound plan holds, and where its map and its queries lie. The numbers are not judged.
 pub struct Plan {
@@ -153,9 +153,9 @@ fn test_record(bytes: &[u8], at: usize) -> Tested
     ensures { λ r. ⌜ r ≡ refuse 14 (recordPast (now (bytes .entry)) at) ⌝ }
 {
     if bytes.len() < 12 {
-        return given::refuse_if(14, true);
+        return answers::refuse_if(14, true);
     }
-    given::refuse_if(14, bytes.len() - 12 < at)
+    answers::refuse_if(14, bytes.len() - 12 < at)
 }
 
 // The query whose record begins at an offset. Refusal: 14, where the bytes end before the record does.
@@ -164,7 +164,7 @@ pub fn ask_query(bytes: &[u8], at: usize) -> Asked
 {
     let tested = test_record(bytes, at);
     let Tested::Passed = tested else {
-        return Asked::Refused(given::refusal_of(tested));
+        return Asked::Refused(answers::refusal_of(tested));
     };
     Asked::Query(query_at(bytes, at))
 }

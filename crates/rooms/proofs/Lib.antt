@@ -3,5 +3,5 @@ pub mod Apart
 pub mod InRoom
 pub mod Running
 pub mod Rooms
-pub mod WaysOut
+pub mod Exits
 pub mod Unique

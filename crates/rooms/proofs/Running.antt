@@ -7,8 +7,8 @@ use mathlib.Core.Logic.{_⊎_, inl, inr}
 use Prim.Native.Nat.{ℕ, zero, suc, _+_, _-_, _≤_, _<_}
 use native.Mathlib.Decide.{decLt}
 use native.Mathlib.Omega.{arith}
-use Rattle.given.specs.Bools.{run, allBelow, pick}
-use Rattle.given.proofs.Bools.{all-at, all-from, all-fails, some-fails}
+use Rattle.answers.specs.Bools.{run, allBelow, pick}
+use Rattle.answers.proofs.Bools.{all-at, all-from, all-fails, some-fails}
 
 -- i is as far as one can go: all before it pass, and it is the end or fails
 record Runs (test : ℕ → Bool) (n i : ℕ) : Type 0 where

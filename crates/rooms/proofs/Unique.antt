@@ -1,8 +1,8 @@
 -- No second answer meets the contract of asking for a room, as the checker reads it.
 use mathlib.Core.Path.{_≡_, sym, _∙_}
 use mathlib.Core.List.{[], _∷_}
-use Rattle.given.specs.Refusing.{done}
-use Rattle.given.proofs.Refusals.{never, answered-once}
+use Rattle.answers.specs.Refusing.{done}
+use Rattle.answers.proofs.Refusals.{never, answered-once}
 use Rattle.floor.specs.Floor.{Map, Spot}
 use Rattle.rooms.specs.declared.Room.{Room}
 use Rattle.rooms.specs.declared.Roomed.{Roomed}

@@ -1,8 +1,8 @@
--- What asking for a room gives back, by the numbers of document 01.
+-- What asking for a room gives back.
 use mathlib.Core.Path.{_≡_}
 use mathlib.Core.List.{List, [], _∷_}
-use Rattle.given.specs.declared.Tested.{Tested}
-use Rattle.given.specs.Refusing.{Given, done, refused, refuse, firstOf, Answered}
+use Rattle.answers.specs.declared.Tested.{Tested}
+use Rattle.answers.specs.Refusing.{Given, done, refused, refuse, firstOf, Answered}
 use Rattle.floor.specs.Floor.{Map, Spot, largestSide}
 use Rattle.floor.specs.Refusals.{offFloor, closed}
 use Rattle.floor.specs.Tests.{floorTested}
@@ -10,13 +10,9 @@ use Rattle.rooms.specs.declared.Roomed.{Roomed}
 use Rattle.rooms.specs.declared.Roomed.the-variants as roomed
 use Rattle.rooms.specs.Room.{roomOf}
 
--- Room: 1, 2, 3, 5, 7
+-- the tests of asking for a room
 unfoldable pub roomTests : Map → (cell : Spot) → List Tested
-roomTests m s =
-    floorTested largestSide m
-    ∷ refuse 5 (offFloor (m .width) (m .height) s)
-    ∷ refuse 7 (closed m s)
-    ∷ []
+roomTests m s = floorTested largestSide m ∷ refuse 5 (offFloor (m .width) (m .height) s) ∷ refuse 7 (closed m s) ∷ []
 
 -- a room's left, top, right, bottom
 abbrev pub roomedGives : Roomed → Given

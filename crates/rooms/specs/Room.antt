@@ -1,12 +1,11 @@
--- Document 01, "Rooms": from the cell go north and south while cells are open, then widen this column run west and
--- east while the whole next column of that height is open. The answer is left, top, right, bottom.
+-- REFERENCE, "Rooms": how a room grows around a cell.
 use mathlib.Core.Bool.{Bool}
 use Prim.Native.Nat.{ℕ, _+_, _-_}
-use Rattle.given.specs.Bools.{run, allBelow}
+use Rattle.answers.specs.Bools.{run, allBelow}
 use Rattle.rooms.specs.declared.Room.{Room}
 use Rattle.floor.specs.Floor.{Map, open?}
 
--- north and south while cells are open
+-- how far the open cells of the column lead from the cell
 unfoldable pub topOf : Map → ℕ → ℕ → ℕ
 topOf m column row = row - run (λ i. open? m column (row - 1 - i)) row
 
@@ -17,7 +16,7 @@ bottomOf m column row = row + run (λ i. open? m column (row + 1 + i)) (m .heigh
 unfoldable pub columnOpen : Map → ℕ → ℕ → ℕ → Bool
 columnOpen m top bottom column = allBelow (λ i. open? m column (top + i)) (bottom + 1 - top)
 
--- west and east while the whole next column is open
+-- how far columns lead that are open from top to bottom
 unfoldable pub leftOf : Map → ℕ → ℕ → ℕ → ℕ
 leftOf m top bottom column = column - run (λ i. columnOpen m top bottom (column - 1 - i)) column
 

@@ -2,12 +2,12 @@
 ghost use mathlib.Core.Path.{_≡_};
 ghost use Prim.Native.Nat.{_<_};
 ghost use Rattle.floor.specs.Floor.{mapOf};
-ghost use Rattle.floor.specs.Inner.{Sound};
+ghost use Rattle.floor.specs.inner.Ready.{SoundFloor};
 ghost use Rattle.rooms.specs.Room.{topOf, bottomOf, columnOpen, leftOf, rightOf};
 
 // The northernmost row that open cells lead to along the column.
 pub fn north_end(width: usize, height: usize, map: &[u8], column: usize, row: usize) -> usize
-    requires { ⌜ Sound (mapOf width height (now map)) ⌝ }
+    requires { ⌜ SoundFloor (mapOf width height (now map)) ⌝ }
     ensures { λ r. ⌜ r ≡ topOf (mapOf width height (now (map .entry))) column row ⌝ }
 {
     let mut top = row;
@@ -22,7 +22,7 @@ pub fn north_end(width: usize, height: usize, map: &[u8], column: usize, row: us
 
 // The southernmost row that open cells lead to along the column.
 pub fn south_end(width: usize, height: usize, map: &[u8], column: usize, row: usize) -> usize
-    requires { ⌜ Sound (mapOf width height (now map)) ⌝ }
+    requires { ⌜ SoundFloor (mapOf width height (now map)) ⌝ }
     requires { ⌜ row < height ⌝ }
     ensures { λ r. ⌜ r ≡ bottomOf (mapOf width height (now (map .entry))) column row ⌝ }
 {
@@ -45,7 +45,7 @@ fn column_open(
     bottom: usize,
     column: usize,
 ) -> bool
-    requires { ⌜ Sound (mapOf width height (now map)) ⌝ }
+    requires { ⌜ SoundFloor (mapOf width height (now map)) ⌝ }
     requires { ⌜ bottom < height ⌝ }
     ensures { λ r. ⌜ r ≡ columnOpen (mapOf width height (now (map .entry))) top bottom column ⌝ }
 {
@@ -68,7 +68,7 @@ pub fn west_end(
     bottom: usize,
     column: usize,
 ) -> usize
-    requires { ⌜ Sound (mapOf width height (now map)) ⌝ }
+    requires { ⌜ SoundFloor (mapOf width height (now map)) ⌝ }
     requires { ⌜ bottom < height ⌝ }
     ensures { λ r. ⌜ r ≡ leftOf (mapOf width height (now (map .entry))) top bottom column ⌝ }
 {
@@ -91,7 +91,7 @@ pub fn east_end(
     bottom: usize,
     column: usize,
 ) -> usize
-    requires { ⌜ Sound (mapOf width height (now map)) ⌝ }
+    requires { ⌜ SoundFloor (mapOf width height (now map)) ⌝ }
     requires { ⌜ (bottom < height) × (column < width) ⌝ }
     ensures { λ r. ⌜ r ≡ rightOf (mapOf width height (now (map .entry))) top bottom column ⌝ }
 {

@@ -1,12 +1,12 @@
 // Rooms: the room around a cell, as a rectangle of open cells.
 ghost use mathlib.Core.Path.{_≡_};
-ghost use Rattle.given.specs.Refusing.{firstOf};
+ghost use Rattle.answers.specs.Refusing.{firstOf};
 ghost use Rattle.floor.specs.Floor.{mapOf, spotOf};
 ghost use Rattle.rooms.specs.Answers.{roomTests, Rooms};
+use answers::Refusal;
+use answers::Tested;
 use floor::LARGEST_SIDE;
 use floor::links;
-use given::Refusal;
-use given::Tested;
 
 mod growth;
 
@@ -49,7 +49,7 @@ pub fn room_around(width: usize, height: usize, map: &[u8], column: usize, row: 
 {
     let tested = test_cell(width, height, map, column, row);
     let Tested::Passed = tested else {
-        return Roomed::Refused(given::refusal_of(tested));
+        return Roomed::Refused(answers::refusal_of(tested));
     };
     let top = growth::north_end(width, height, map, column, row);
     let bottom = growth::south_end(width, height, map, column, row);

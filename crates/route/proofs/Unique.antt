@@ -4,22 +4,22 @@ use mathlib.Core.Path.{_≡_, sym, _∙_, ap, ap₂}
 use mathlib.Core.List.{List, [], _∷_}
 use Prim.Native.Nat.{ℕ}
 use denote.Ref.{now}
-use Rattle.given.specs.Refusing.{Given, done}
-use Rattle.given.proofs.Refusals.{never, answered-once}
+use Rattle.answers.specs.Refusing.{Given, done}
+use Rattle.answers.proofs.Refusals.{never, answered-once}
 use Rattle.lengths.specs.declared.Length.{Length}
 use Rattle.floor.specs.Floor.{Map}
 use Rattle.calls.specs.Calls.{Route}
 use Rattle.steps.specs.Step.{stepsOf}
-use Rattle.entries.proofs.OneTable.{filled-unique}
+use Rattle.table_theory.proofs.OneTable.{filled-unique}
 use Rattle.table.proofs.Unique.{verdict-once}
-use Rattle.walking.specs.declared.RouteReading.{RouteReading}
-use Rattle.walking.specs.declared.RouteReading.the-variants as reading
-use Rattle.walking.specs.Read.{ReadsRoute}
-use Rattle.walking.proofs.Unique.{reads-only}
+use Rattle.route_legs.specs.declared.RouteReading.{RouteReading}
+use Rattle.route_legs.specs.declared.RouteReading.the-variants as reading
+use Rattle.route_legs.specs.inner.Reading.{ReadsRoute}
+use Rattle.route_legs.proofs.Unique.{reads-only}
 use Rattle.route.specs.declared.Answer.{Answer}
 use Rattle.route.specs.declared.Answer.the-variants as answer
 use Rattle.route.specs.Answers.{answerGives, Routed, way, no-way, no-room, Finds, ReadsTable}
-use Rattle.route.specs.Inner.{readAnswer}
+use Rattle.route.specs.inner.Answering.{readAnswer}
 use Rattle.route.proofs.find_route.Reads as find-reads
 use Rattle.route.proofs.route_from_table.Reads as from-reads
 

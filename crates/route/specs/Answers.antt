@@ -1,23 +1,22 @@
--- What finding a route, and a route from a table, give back, by the numbers of document 01, and what they leave in
--- table and leg buffer.
+-- What finding a route, and a route from a table, give back, and what they leave in table and leg buffer.
 use mathlib.Core.Path.{_≡_}
 use mathlib.Core.List.{List, [], _∷_}
 use Prim.Native.Nat.{ℕ}
 use lib.ListN.{length}
-use Rattle.given.specs.Refusing.{Given, done, refused, bare, firstOf, Answered}
+use Rattle.answers.specs.Refusing.{Given, done, refused, bare, firstOf, Answered}
 use Rattle.floor.specs.Floor.{cells, spotCell}
 use Rattle.calls.specs.Calls.{Route, routeTests}
 use Rattle.steps.specs.Way.{Graph, Only}
 use Rattle.steps.specs.Step.{stepsOf}
-use Rattle.entries.specs.Filled.{Filled}
-use Rattle.entries.specs.Made.{Right}
+use Rattle.table_theory.specs.Filled.{Filled}
+use Rattle.table_theory.specs.Made.{Right}
 use Rattle.table.specs.Answers.{Verdict}
-use Rattle.walking.specs.declared.Way.{Way}
-use Rattle.walking.specs.Read.{Found, NoWay, NoRoom}
+use Rattle.route_legs.specs.declared.Way.{Way}
+use Rattle.route_legs.specs.Read.{Found, NoWay, NoRoom}
 use Rattle.route.specs.declared.Answer.{Answer}
 use Rattle.route.specs.declared.Answer.the-variants as answer
 
--- a route's answer is a way, with its length and leg count, or a refusal with its number and place or count
+-- a way gives its length and how many legs it has
 abbrev pub answerGives : Answer → Given
 answerGives (answer.Way w) = done (w .length .straight ∷ w .length .diagonal ∷ w .legs ∷ [])
 answerGives (answer.Refused f) = refused f

@@ -2,12 +2,12 @@
 ghost use mathlib.Core.Path.{_≡_};
 ghost use Rattle.calls.specs.Calls.{routeOf};
 ghost use Rattle.route.specs.Answers.{Finds, ReadsTable};
-ghost use Rattle.route.specs.Inner.{readAnswer};
+ghost use Rattle.route.specs.inner.Answering.{readAnswer};
+use answers::Refusal;
+use answers::Tested;
 use floor::links;
-use given::Refusal;
-use given::Tested;
-use walking::RouteReading;
-use walking::Way;
+use route_legs::RouteReading;
+use route_legs::Way;
 
 // What a call for a route answers: a way, with its length and leg count, or a refusal.
 pub enum Answer {
@@ -59,15 +59,15 @@ pub fn find_route(
         table.len(),
     );
     let Tested::Passed = tested else {
-        return Answer::Refused(given::refusal_of(tested));
+        return Answer::Refused(answers::refusal_of(tested));
     };
     let filled = table::fill(width, height, map, column, row, table);
     let Tested::Passed = filled else {
-        return Answer::Refused(given::refusal_of(filled));
+        return Answer::Refused(answers::refusal_of(filled));
     };
     let start = links::cell_of(width, height, from_column, from_row);
     let goal = links::cell_of(width, height, column, row);
-    read_answer(walking::read_route(width, height, map, table, start, goal, legs))
+    read_answer(route_legs::read_route(width, height, map, table, start, goal, legs))
 }
 
 // A route from a table, which is checked first and only read. Refusals: 1 to 8, then 11, 9, 10.
@@ -96,13 +96,13 @@ pub fn route_from_table(
         table.len(),
     );
     let Tested::Passed = tested else {
-        return Answer::Refused(given::refusal_of(tested));
+        return Answer::Refused(answers::refusal_of(tested));
     };
     let checked = table::check(width, height, map, column, row, table);
     let Tested::Passed = checked else {
-        return Answer::Refused(given::refusal_of(checked));
+        return Answer::Refused(answers::refusal_of(checked));
     };
     let start = links::cell_of(width, height, from_column, from_row);
     let goal = links::cell_of(width, height, column, row);
-    read_answer(walking::read_route(width, height, map, table, start, goal, legs))
+    read_answer(route_legs::read_route(width, height, map, table, start, goal, legs))
 }

@@ -8,32 +8,32 @@ use native.Mathlib.Omega.{arith}
 use borrow.Author.Tests.{eqb-true, leb-true, ltb-true}
 use lib.Dec.{eqb, leb, ltb}
 use lib.ListN.{length}
-use Rattle.given.specs.declared.Tested.{Tested}
-use Rattle.given.specs.declared.Tested.the-variants.{Passed, Refused}
-use Rattle.given.specs.Bools.{pick, either, both, allBelow}
-use Rattle.given.specs.Refusing.{Given, done, refused, firstOf, gives}
-use Rattle.given.proofs.Bools.{both-true}
-use Rattle.given.proofs.Refusals.{work-done}
+use Rattle.answers.specs.declared.Tested.{Tested}
+use Rattle.answers.specs.declared.Tested.the-variants.{Passed, Refused}
+use Rattle.answers.specs.Bools.{pick, either, both, allBelow}
+use Rattle.answers.specs.Refusing.{Given, done, refused, firstOf, gives}
+use Rattle.answers.proofs.Bools.{both-true}
+use Rattle.answers.proofs.Refusals.{work-done}
 use Rattle.lengths.specs.declared.Length.{Length}
 use Rattle.lengths.specs.Order.{shorter}
 use Rattle.lengths.specs.Distance.{Spoken}
 use Rattle.lengths.specs.Answers.{compareTests, distanceTests}
 use Rattle.lengths.proofs.Rounding.{spoken-unique}
 use Rattle.floor.specs.Floor.{Map, cells, spotCell, largestSide}
-use Rattle.floor.specs.Inner.{Sound}
+use Rattle.floor.specs.inner.Ready.{SoundFloor}
 use Rattle.floor.specs.Tests.{floorTested}
 use Rattle.floor.proofs.Tested.{floor-asked, largest-low}
-use Rattle.steps.specs.Leading.{leadOf}
+use Rattle.steps.specs.inner.Leading.{leadOf}
 use Rattle.steps.specs.Step.{stepsOf}
 use Rattle.steps.specs.Way.{Only}
 use Rattle.rooms.specs.declared.Roomed.the-variants as roomed
 use Rattle.rooms.specs.Answers.{roomTests, roomedGives}
 use Rattle.rooms.specs.Room.{roomOf}
 use Rattle.calls.specs.Calls.{goalTests, routeTests}
-use Rattle.entries.specs.Filled.{Filled}
+use Rattle.table_theory.specs.Filled.{Filled}
 use Rattle.table.proofs.Unique.{fills-only, checks-only}
 use Rattle.route.specs.Answers.{answerGives}
-use Rattle.route.specs.Inner.{readAnswer}
+use Rattle.route.specs.inner.Answering.{readAnswer}
 use Rattle.route.proofs.Unique.{finds-only}
 use Rattle.stars.specs.Starred.{Case, compare, distance, room, fill, check, find, toGoal, route, Holds, All, written}
 use Rattle.stars.proofs.Tables.{right?, verdict?, verdict, filled}
@@ -121,7 +121,7 @@ table? m goal t =
     both (passes? (floorTested largestSide m)) (both (ltb goal (cells m)) (both (eqb (length t) (cells m)) (allBelow (right? m goal t) (cells m))))
 
 record Table (m : Map) (goal : ℕ) (t : List ℕ) : Type 0 where
-  sound : Sound m
+  sound : SoundFloor m
   on : goal < cells m
   is-filled : Filled (stepsOf m) (Only goal) (cells m) t
 

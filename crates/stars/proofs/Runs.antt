@@ -10,25 +10,25 @@ use Rattle.lengths.specs.declared.Length.{Length}
 use Rattle.lengths.specs.Order.{zeroLength, _⊕_}
 use Rattle.steps.specs.declared.Lead.{Lead}
 use Rattle.steps.specs.declared.Lead.the-variants.{To, Nowhere}
-use Rattle.given.specs.Bools.{both}
-use Rattle.given.proofs.Bools.{both-true}
+use Rattle.answers.specs.Bools.{both}
+use Rattle.answers.proofs.Bools.{both-true}
 use Rattle.floor.specs.Floor.{Map, cells}
 use Rattle.steps.specs.Heading.{weight}
-use Rattle.steps.specs.Ranking.{numbered}
-use Rattle.floor.specs.Inner.{Sound}
-use Rattle.steps.specs.Leading.{leadOf}
+use Rattle.steps.specs.inner.Ranking.{numbered}
+use Rattle.floor.specs.inner.Ready.{SoundFloor}
+use Rattle.steps.specs.inner.Leading.{leadOf}
 use Rattle.steps.specs.Step.{stepsOf}
 use Rattle.steps.specs.Way.{Only}
-use Rattle.entries.specs.Filled.{Filled}
-use Rattle.walker.specs.Legs.{Leg, Proper, OtherFirst, join}
-use Rattle.walker.specs.Walkers.{Run, done, more, next}
-use Rattle.walker.proofs.OnFloor.{first-run}
-use Rattle.walking.specs.declared.RouteReading.{RouteReading}
-use Rattle.walking.specs.declared.RouteReading.the-variants as reading
-use Rattle.walking.specs.Read.{ReadsRoute}
-use Rattle.walking.proofs.Answering.{reads-no-way}
+use Rattle.table_theory.specs.Filled.{Filled}
+use Rattle.route_walker.specs.Legs.{Leg, Proper, OtherFirst, join}
+use Rattle.route_walker.specs.inner.Walkers.{Run, done, more, next}
+use Rattle.route_walker.proofs.OnFloor.{first-run}
+use Rattle.route_legs.specs.declared.RouteReading.{RouteReading}
+use Rattle.route_legs.specs.declared.RouteReading.the-variants as reading
+use Rattle.route_legs.specs.inner.Reading.{ReadsRoute}
+use Rattle.route_legs.proofs.Answering.{reads-no-way}
 use Rattle.route.specs.Answers.{answerGives, Routed, way, no-way}
-use Rattle.route.specs.Inner.{readAnswer}
+use Rattle.route.specs.inner.Answering.{readAnswer}
 use Rattle.stars.specs.Starred.{written}
 
 -- these are the reader's headings from x
@@ -87,7 +87,7 @@ abbrev pub readingOf : (none : Bool) → List Leg → RouteReading
 readingOf true legs = reading.NoWay
 readingOf false legs = reading.Way (record { length = lengthOf (join legs); legs = length legs })
 
-module _ (m : Map) (c : Sound m) (goal : ℕ) (on : goal < cells m) (t : List ℕ) (f : Filled (stepsOf m) (Only goal) (cells m) t) (start : ℕ)
+module _ (m : Map) (c : SoundFloor m) (goal : ℕ) (on : goal < cells m) (t : List ℕ) (f : Filled (stepsOf m) (Only goal) (cells m) t) (start : ℕ)
     (b : start < cells m) where
   pub reads : (none : Bool) (legs : List Leg) → reads? (leadOf m) t start none legs ≡ true → (buffer : List ℕ) → 2 * length legs ≤ length buffer
       → ReadsRoute (stepsOf m) (Only goal) (λ h. h) start buffer (readingOf none legs) (written legs buffer)

@@ -9,23 +9,23 @@ use native.Mathlib.Omega.{arith}
 use borrow.Author.Tests.{eqb-true, eq-eqb, ltb-true, not-true}
 use lib.Dec.{eqb, ltb}
 use lib.ListN.{getD, length}
-use Rattle.given.specs.declared.Tested.{Tested}
-use Rattle.given.specs.declared.Tested.the-variants.{Passed, Refused}
-use Rattle.given.specs.Refusing.{done, refused, gives}
-use Rattle.given.specs.Bools.{both, allBelow}
-use Rattle.given.proofs.Bools.{both-true, all-at}
+use Rattle.answers.specs.declared.Tested.{Tested}
+use Rattle.answers.specs.declared.Tested.the-variants.{Passed, Refused}
+use Rattle.answers.specs.Refusing.{done, refused, gives}
+use Rattle.answers.specs.Bools.{both, allBelow}
+use Rattle.answers.proofs.Bools.{both-true, all-at}
 use Rattle.floor.specs.Floor.{Map, cells}
-use Rattle.floor.specs.Inner.{Sound}
-use Rattle.steps.specs.Leading.{leadOf}
+use Rattle.floor.specs.inner.Ready.{SoundFloor}
+use Rattle.steps.specs.inner.Leading.{leadOf}
 use Rattle.steps.specs.Step.{stepsOf}
 use Rattle.steps.specs.Way.{Only}
 use Rattle.steps.proofs.OnMap.{few-cells, on-floor}
-use Rattle.entries.specs.Entry.{pack, malformed, entryAt}
-use Rattle.entries.specs.Best.{made}
-use Rattle.entries.specs.Filled.{Filled}
-use Rattle.entries.specs.Made.{Right}
-use Rattle.entries.proofs.Judging.{right-filled}
-use Rattle.judging.proofs.Deciding.{floor-only, floor-made, tells-only}
+use Rattle.table_theory.specs.Entry.{pack, malformed, entryAt}
+use Rattle.table_theory.specs.inner.Best.{made}
+use Rattle.table_theory.specs.Filled.{Filled}
+use Rattle.table_theory.specs.Made.{Right}
+use Rattle.table_theory.proofs.Judging.{right-filled}
+use Rattle.check_rows.proofs.Deciding.{floor-only, floor-made, tells-only}
 use Rattle.table.specs.Answers.{Verdict, differs, right}
 
 -- the entry is not malformed, and is what its neighbours make it
@@ -71,6 +71,6 @@ module _ (m : Map) (goal : ℕ) (t : List ℕ) where
       differs (f .place) h (record { within = omega arith; before = all-right (f .place) s; wrong = λ k. is-wrong (f .place) (not-true _ u) })
       (ap (λ (k : ℕ). refused (record { number = k; place = f .place })) (eqb-true (f .number) 11 eleven)) tt
 
-  pub filled : Sound m → goal < cells m → length t ≡ cells m → allBelow (right? m goal t) (cells m) ≡ true → Filled (stepsOf m) (Only goal) (cells m) t
+  pub filled : SoundFloor m → goal < cells m → length t ≡ cells m → allBelow (right? m goal t) (cells m) ≡ true → Filled (stepsOf m) (Only goal) (cells m) t
   filled s on size e =
       right-filled (stepsOf m) (Only goal) (λ x. ℕ-discrete x goal) (cells m) (few-cells m s) (on-floor m) (λ x g. omega arith) t size (all-right (cells m) e)

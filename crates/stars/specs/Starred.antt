@@ -1,12 +1,12 @@
--- The starred cases of document 01, "Floors to try": one list, and what is said of each. A case holds if every answer,
+-- The worked cases that are proved: one list, and what is said of each. A case holds if every answer,
 -- and all that is left in table and leg buffer, that meets the promise of the entry point at these inputs is what the
 -- case states.
 use mathlib.Core.Path.{_≡_}
 use mathlib.Core.List.{List, [], _∷_, _++_}
 use Prim.Native.Nat.{ℕ, _*_, _≤_}
 use lib.ListN.{length, drop}
-use Rattle.given.specs.declared.Tested.{Tested}
-use Rattle.given.specs.Refusing.{Given, done, refused, bare, gives}
+use Rattle.answers.specs.declared.Tested.{Tested}
+use Rattle.answers.specs.Refusing.{Given, done, refused, bare, gives}
 use Rattle.lengths.specs.declared.Length.{Length}
 use Rattle.lengths.specs.declared.Compared.{Compared}
 use Rattle.lengths.specs.declared.Distance.{Distance}
@@ -15,9 +15,9 @@ use Rattle.rooms.specs.declared.Roomed.{Roomed}
 use Rattle.floor.specs.Floor.{Map, Spot, mapOf, spotOf, cells}
 use Rattle.calls.specs.Calls.{ToGoal, Route}
 use Rattle.rooms.specs.Answers.{roomedGives, Rooms}
-use Rattle.entries.specs.Entry.{mark, long, pack}
+use Rattle.table_theory.specs.Entry.{mark, long, pack}
 use Rattle.table.specs.Answers.{Fills, Checks}
-use Rattle.walker.specs.Legs.{Leg, bytes}
+use Rattle.route_walker.specs.Legs.{Leg, bytes}
 use Rattle.route.specs.declared.Answer.{Answer}
 use Rattle.route.specs.Answers.{answerGives, Finds}
 

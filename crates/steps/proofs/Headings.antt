@@ -1,4 +1,4 @@
--- The one table of headings: it is document 01's with one added to each change. What holds of the changes of all eight
+-- The one table of headings: it is the signed one of REFERENCE with one added to each change. What holds of the changes of all eight
 -- headings is computed over the whole table once: how large they are (`changes-of`), that the opposite heading undoes
 -- them, and that a diagonal heading has those of the two straight ones beside it (`corner-of`).
 use mathlib.Core.Path.{_≡_, refl, sym, subst}
@@ -12,12 +12,12 @@ use borrow.Author.Tests.{leb-true, eqb-true}
 use lib.Dec.{leb, eqb}
 use lib.IntN.{ℤ, pos, negsuc, _+ℤ_}
 use Rattle.steps.specs.declared.Change.{Change}
-use Rattle.given.specs.Bools.{both, pick}
+use Rattle.answers.specs.Bools.{both, pick}
 use Rattle.steps.specs.Heading.{changes, changeOf}
 use Rattle.floor.proofs.Entries.{every, entry}
-use Rattle.given.proofs.Bools.{both-true}
+use Rattle.answers.proofs.Bools.{both-true}
 
--- document 01's table: column and row change of N, NE, E, SE, S, SW, W, NW
+-- REFERENCE, "Headings and steps": column and row change of N, NE, E, SE, S, SW, W, NW
 pub record Signed : Type 0 where
   pub column : ℤ
   pub row : ℤ
@@ -42,7 +42,7 @@ oneAdded s = record { column = s .column +ℤ pos 1; row = s .row +ℤ pos 1 }
 abbrev pub asSigned : Change → Signed
 asSigned d = record { column = pos (d .column); row = pos (d .row) }
 
--- the code's table is document 01's with one added to each change
+-- the code's table is the signed one with one added to each change
 pub table-is : map asSigned changes ≡ map oneAdded headings
 unfolding changes
 table-is = refl

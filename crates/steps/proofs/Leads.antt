@@ -5,13 +5,13 @@ use Prim.Native.Nat.{ℕ, _+_, _-_, _*_, _%_, _/_, _<_}
 use native.Mathlib.Omega.{arith}
 use native.Mathlib.Nat.{div-add-mod'}
 use lib.Dec.{T as Holds, ltb, ltb→lt, lt→ltb}
-use Rattle.given.specs.Bools.{pick, both}
+use Rattle.answers.specs.Bools.{pick, both}
 use Rattle.steps.specs.declared.Lead.the-variants.{To, Nowhere}
 use Rattle.floor.specs.Floor.{Map, open?}
-use Rattle.steps.specs.Leading.{openPast, permitted, leadOf}
+use Rattle.steps.specs.inner.Leading.{openPast, permitted, leadOf}
 use Rattle.steps.specs.Heading.{changeOf}
 use Rattle.steps.specs.Step.{Step}
-use Rattle.given.proofs.Bools.{both-true}
+use Rattle.answers.proofs.Bools.{both-true}
 use Rattle.floor.proofs.Reading.{open-on}
 use Rattle.steps.proofs.Grid.{Floor, graph, cell, cell-column, cell-row}
 

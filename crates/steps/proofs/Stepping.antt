@@ -10,12 +10,12 @@ use Rattle.steps.specs.declared.Change.{Change}
 use Rattle.steps.specs.declared.Lead.the-variants as lead
 use Rattle.floor.specs.Floor.{Map, cells}
 use Rattle.steps.specs.Heading.{changeOf}
-use Rattle.floor.specs.Inner.{Sound}
-use Rattle.steps.specs.Leading.{permitted, leadOf}
+use Rattle.floor.specs.inner.Ready.{SoundFloor}
+use Rattle.steps.specs.inner.Leading.{permitted, leadOf}
 use Rattle.steps.proofs.Leads.{four, open-column, open-row}
 
 -- column and row of a cell on the floor
-pub place : (m : Map) → Sound m → (x : ℕ) → x < cells m → (x % m .width < m .width) × (x / m .width < m .height)
+pub place : (m : Map) → SoundFloor m → (x : ℕ) → x < cells m → (x % m .width < m .width) × (x / m .width < m .height)
 place m sound x h = (mod-lt x (sound .some-wide), div-lt-iff-lt-mul (sound .some-wide) .1 h)
 
 -- a permitted step ends at an open cell, which lies on the floor

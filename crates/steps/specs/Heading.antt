@@ -1,11 +1,11 @@
--- Document 01, "Floor": the eight headings and their column and row changes.
+-- REFERENCE, "Headings and steps": the table of headings.
 use mathlib.Core.List.{List, [], _∷_}
 use Prim.Native.Nat.{ℕ, zero, suc, _%_}
 use lib.ListN.{getD}
 use Rattle.lengths.specs.declared.Length.{Length}
 use Rattle.steps.specs.declared.Change.{Change}
 
--- the code's table: each change plus one, so that −1, 0, +1 are 0, 1, 2. That it is document 01's is `table-is` of
+-- the code's table: each change plus one, so that −1, 0, +1 are 0, 1, 2. That it is the signed table is `table-is` of
 -- proofs/Headings
 unfoldable pub changes : List Change
 changes =

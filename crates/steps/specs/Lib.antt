@@ -1,5 +1,4 @@
 pub mod Heading
-pub mod Ranking
 pub mod Way
 pub mod Step
-pub mod Leading
+pub mod inner

@@ -1,4 +1,4 @@
--- Document 01, "Floor": a step, in one statement for all eight headings.
+-- REFERENCE, "Headings and steps": a step, in one statement for all eight headings.
 use mathlib.Core.Path.{_≡_, refl}
 use Prim.Native.Nat.{ℕ, zero, suc, _+_, _%_, _/_, _<_}
 use Rattle.lengths.specs.Order.{steps}
@@ -10,8 +10,8 @@ use Rattle.steps.specs.Way.{Graph}
 pub record Moved (k a b : ℕ) : Type 0 where
   pub sum : a + k ≡ b + 1
 
--- a step goes from an open cell to an open cell on the floor. A diagonal step also needs open the two cells that share
--- a side with both its ends; of a straight step these two are the ends
+-- from (c, r) by heading h to (c′, r′): both ends are open, and so are (c, r′) and (c′, r), the two cells beside a
+-- diagonal step; of a straight step these two are its ends
 pub record Step (Open : ℕ → ℕ → Type 0) (h c r c′ r′ : ℕ) : Type 0 where
   pub heading : h < 8
   pub column : Moved (changeOf h .column) c c′

@@ -1,4 +1,4 @@
--- Document 01, "Floor" and "Table": ways over any set of permitted steps, and the shortest length to any set of goal
+-- REFERENCE, "Headings and steps" and "Table": ways over any set of permitted steps, and the shortest length to any set of goal
 -- cells.
 use mathlib.Core.Path.{_≡_}
 use Prim.Native.Nat.{ℕ}
@@ -12,7 +12,7 @@ pub record Graph : Type 1 where
   pub weight : ℕ → Length
   pub one : (h : ℕ) → steps (weight h) ≡ 1
 
--- a way is a chain of steps; none at all is a way from a cell to itself. Way G x y l: from x to y, of length l
+-- Way G x y l: a chain of steps from x to y, of length l; a chain of none is a way from x to x
 pub data Way (G : Graph) : ℕ → ℕ → Length → Type 0 where
   stay : {x : ℕ} → Way G x x zeroLength
   step : {h x y z : ℕ} {l : Length} → G .Step h x y → Way G y z l → Way G x z (l ⊕ G .weight h)

@@ -3,8 +3,8 @@ ghost use mathlib.Core.Path.{_≡_};
 ghost use Prim.Native.Nat.{_+_, _*_, _≤_, _<_};
 ghost use Rattle.floor.specs.Floor.{mapOf};
 ghost use Rattle.steps.specs.Heading.{changeOf};
-ghost use Rattle.floor.specs.Inner.{Sound};
-ghost use Rattle.steps.specs.Leading.{openPast, permitted as permittedOf, leadOf};
+ghost use Rattle.floor.specs.inner.Ready.{SoundFloor};
+ghost use Rattle.steps.specs.inner.Leading.{openPast, permitted as permittedOf, leadOf};
 
 // Column and row change of a heading, each plus one.
 pub struct Change {
@@ -40,7 +40,7 @@ pub fn change_of(heading: usize) -> Change
 
 // Whether the cell is open, its column and row counted from one further.
 fn open_past(width: usize, height: usize, map: &[u8], column: usize, row: usize) -> bool
-    requires { ⌜ Sound (mapOf width height (now map)) ⌝ }
+    requires { ⌜ SoundFloor (mapOf width height (now map)) ⌝ }
     ensures { λ r. ⌜ r ≡ openPast (mapOf width height (now (map .entry))) column row ⌝ }
 {
     if column < 1 {
@@ -62,7 +62,7 @@ fn permitted(
     column: usize,
     row: usize,
 ) -> bool
-    requires { ⌜ Sound (mapOf width height (now map)) ⌝ }
+    requires { ⌜ SoundFloor (mapOf width height (now map)) ⌝ }
     requires { ⌜ ((across ≤ 2) × (down ≤ 2)) × ((column < 128) × (row < 128)) ⌝ }
     ensures { λ r. ⌜ r ≡ permittedOf (mapOf width height (now (map .entry))) across down column row ⌝ }
 {
@@ -80,7 +80,7 @@ fn permitted(
 
 // Where a heading leads from a cell.
 pub fn lead_of(width: usize, height: usize, map: &[u8], heading: usize, cell: usize) -> Lead
-    requires { ⌜ Sound (mapOf width height (now map)) ⌝ }
+    requires { ⌜ SoundFloor (mapOf width height (now map)) ⌝ }
     requires { ⌜ (heading < 8) × (cell < height * width) ⌝ }
     ensures { λ r. ⌜ r ≡ leadOf (mapOf width height (now (map .entry))) heading cell ⌝ }
 {

@@ -1,2 +1,2 @@
-pub mod WaysOut
+pub mod Exits
 pub mod Unique

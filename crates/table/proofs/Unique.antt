@@ -6,12 +6,12 @@ use Prim.Native.Nat.{ℕ, suc, _<_}
 use native.Mathlib.Omega.{arith}
 use native.Mathlib.Decide.{decLe}
 use denote.Ref.{now}
-use Rattle.given.specs.declared.Tested.{Tested}
-use Rattle.given.specs.Refusing.{Given, refused}
-use Rattle.given.proofs.Refusals.{answered-once, gives-apart}
+use Rattle.answers.specs.declared.Tested.{Tested}
+use Rattle.answers.specs.Refusing.{Given, refused}
+use Rattle.answers.proofs.Refusals.{answered-once, gives-apart}
 use Rattle.calls.specs.Calls.{ToGoal}
-use Rattle.entries.specs.Made.{Judged}
-use Rattle.entries.proofs.OneTable.{filled-unique}
+use Rattle.table_theory.specs.Made.{Judged}
+use Rattle.table_theory.proofs.OneTable.{filled-unique}
 use Rattle.table.specs.Answers.{Fills, Verdict, differs, right, Checks}
 use Rattle.table.proofs.fill.Reads as fill-reads
 use Rattle.table.proofs.check.Reads as check-reads

@@ -1,19 +1,18 @@
--- What filling and checking a table give back, by the numbers of document 01, and what they leave in it.
+-- What filling and checking a table give back, and what they leave in it.
 use mathlib.Core.Path.{_≡_}
 use mathlib.Core.List.{List, []}
 use Prim.Native.Nat.{ℕ, _<_}
 use lib.ListN.{length}
-use Rattle.given.specs.declared.Tested.{Tested}
-use Rattle.given.specs.Refusing.{Given, done, refused, firstOf, Answered, gives}
+use Rattle.answers.specs.declared.Tested.{Tested}
+use Rattle.answers.specs.Refusing.{Given, done, refused, firstOf, Answered, gives}
 use Rattle.floor.specs.Floor.{cells, spotCell}
 use Rattle.calls.specs.Calls.{ToGoal, goalTests}
 use Rattle.steps.specs.Way.{Only}
 use Rattle.steps.specs.Step.{stepsOf}
-use Rattle.entries.specs.Filled.{Filled}
-use Rattle.entries.specs.Made.{Right, Judged}
+use Rattle.table_theory.specs.Filled.{Filled}
+use Rattle.table_theory.specs.Made.{Right, Judged}
 
--- filling: a refusal leaves the table as it was; else each entry is the shortest length from that cell to the goal, or
--- the mark
+-- filling: a refusal leaves the table as it was; else it is filled
 abbrev pub Fills : ToGoal → (old : List ℕ) → Tested → (new : List ℕ) → Type 0
 Fills a old r new =
     Answered (firstOf (goalTests a (length old))) (new ≡ old)

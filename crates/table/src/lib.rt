@@ -1,8 +1,8 @@
 // The length table: filling one, and checking one from anyone.
 ghost use Rattle.calls.specs.Calls.{toGoalOf};
 ghost use Rattle.table.specs.Answers.{Fills, Checks};
+use answers::Tested;
 use floor::links;
-use given::Tested;
 
 // Filling: each entry becomes the shortest length from its cell to the goal, or the mark. Refusals: 1, 2, 3, 4, 6, 8.
 pub fn fill(
@@ -20,7 +20,7 @@ pub fn fill(
         return tested;
     };
     let goal = links::cell_of(width, height, column, row);
-    waves::fill_table(width, height, map, goal, table);
+    fill_table::fill_table(width, height, map, goal, table);
     Tested::Passed
 }
 
@@ -41,6 +41,6 @@ pub fn check(
         return tested;
     };
     let goal = links::cell_of(width, height, column, row);
-    let cell = checking::first_wrong(width, height, map, goal, table);
-    given::refuse_at(11, cell, cell < table.len())
+    let cell = check_table::first_wrong(width, height, map, goal, table);
+    answers::refuse_at(11, cell, cell < table.len())
 }

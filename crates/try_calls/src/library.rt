@@ -1,9 +1,9 @@
 // The library's calls, and what they say in the form of the trials: the only place that knows the library's answers.
 use crate::OURS;
 use crate::ROOM;
+use answers::Refusal;
+use answers::Tested;
 use floor::Accepted;
-use given::Refusal;
-use given::Tested;
 use lengths::Compared;
 use lengths::Distance;
 use lengths::Length;

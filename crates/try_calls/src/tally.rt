@@ -1,4 +1,4 @@
-// What is counted, in the memory from COUNTS on: for each line how many were compared and how many differed, and how often each of document 01's
+// What is counted, in the memory from COUNTS on: for each line how many were compared and how many differed, and how often each of the
 // numbers was the answer.
 use libc::STDOUT_FILENO;
 use try_solver::ask;

@@ -47,7 +47,7 @@ pub struct Call {
 // How many values an answer has room for.
 pub const VALUES: usize = 6;
 
-// What a call said: document 01's number, and the values that come with it, else 0.
+// What a call said: the number given back, and the values that come with it, else 0.
 pub struct Said {
     pub number: usize,
     pub values: [usize; VALUES],

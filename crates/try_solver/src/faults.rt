@@ -1,4 +1,4 @@
-// Document 01's refusals 1 to 8, in their order: the number of the first that holds, else 0.
+// Refusals 1 to 8, in their order: the number of the first that holds, else 0.
 use crate::ask;
 use crate::ask::Call;
 use crate::grid;

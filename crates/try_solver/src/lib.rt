@@ -1,4 +1,4 @@
-// A second solver for the trials: what document 01 asks of tables, routes, rooms, lengths and refusals, found again in plain other ways.
+// A second solver for the trials: what docs/REFERENCE.md asks of tables, routes, rooms, lengths and refusals, found again in plain other ways.
 //
 // It shares no code, no table and no definition with the library, and it says nothing of its answers but that they come: every function is
 // proved to end, with no index out of range and no number that wraps. Its memory is lent by the caller, and may hold anything.

@@ -3,5 +3,5 @@ fn main() {
     let mut input = [0u8; 4097];
     let length = io::read_full(libc::STDIN_FILENO, &mut input);
     let mut out = [0u8; 262144];
-    output::print_all(&input[..length], &mut out);
+    print_out::print_all(&input[..length], &mut out);
 }

@@ -16,7 +16,7 @@ fn run(i: usize) {
     let read = io::read_full(file, &mut input);
     libc::close(file);
     let mut out = [0u8; 262144];
-    output::print_all(&input[..read], &mut out);
+    print_out::print_all(&input[..read], &mut out);
 }
 
 fn main() {

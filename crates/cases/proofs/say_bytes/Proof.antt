@@ -1,5 +1,4 @@
 -- `cases::say_bytes` is safe and ends: the loop goes through the buffer's bytes.
--- Assumes nothing.
 use Prim.Native.Nat.{_≤_, _-_}
 use borrow.Author.Needs.{needs}
 use lib.ListN.{length}

@@ -2,7 +2,7 @@
 -- sides.
 use mathlib.Core.Path.{refl}
 use borrow.Author.Needs.{needs}
-use Rattle.given.proofs.Refusals.{refused-given, work-done}
+use Rattle.answers.proofs.Refusals.{refused-given, work-done}
 use Rattle.floor.proofs.Tested.{largest-low}
 use Rattle.floor.proofs.accept.Statement.{statement}
 use Rattle.floor.proofs.accept.Tie as tie

@@ -2,9 +2,9 @@
 -- compared.
 use mathlib.Core.Bool.{true, false}
 use borrow.Author.Needs.{needs}
-use Rattle.given.proofs.Refusals.{refused-given}
+use Rattle.answers.proofs.Refusals.{refused-given}
 use Rattle.lengths.proofs.Tested.{both-within}
-use Rattle.lengths.proofs.WaysOut.{compared}
+use Rattle.lengths.proofs.Exits.{compared}
 use Rattle.lengths.proofs.compare.Statement.{statement}
 use Rattle.lengths.proofs.compare.Tie as tie
 

@@ -2,9 +2,9 @@
 -- small, so that nothing wraps.
 use native.Mathlib.Omega.{arith}
 use borrow.Author.Needs.{needs}
-use Rattle.given.proofs.Refusals.{refused-given}
+use Rattle.answers.proofs.Refusals.{refused-given}
 use Rattle.lengths.proofs.Tested.{small-products}
-use Rattle.lengths.proofs.WaysOut.{spoken}
+use Rattle.lengths.proofs.Exits.{spoken}
 use Rattle.lengths.proofs.distance_spoken.Statement.{statement}
 use Rattle.lengths.proofs.distance_spoken.Tie as tie
 

@@ -1,5 +1,4 @@
 -- `lengths::excess` meets its contract.
--- Assumes nothing.
 use borrow.Author.Needs.{needs}
 use Rattle.lengths.specs.Order.{over}
 use Rattle.lengths.proofs.excess.Statement.{statement}

@@ -1,5 +1,4 @@
 -- `lengths::square` meets its contract: a square of at most 16,383 fits.
--- Assumes nothing.
 use native.Mathlib.Nat.{mul-le-mul}
 use native.Mathlib.Omega.{arith}
 use Rattle.lengths.proofs.square.Statement.{statement}

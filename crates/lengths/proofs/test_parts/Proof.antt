@@ -2,7 +2,7 @@
 use mathlib.Core.Path.{_∙_, ap}
 use borrow.Author.Needs.{needs}
 use borrow.Author.Tests.{lt-ltb, le-ltb}
-use Rattle.given.specs.Refusing.{refuse}
+use Rattle.answers.specs.Refusing.{refuse}
 use Rattle.lengths.specs.Answers.{partAbove}
 use Rattle.lengths.proofs.test_parts.Statement.{statement}
 use Rattle.lengths.proofs.test_parts.Tie as tie

@@ -2,7 +2,7 @@
 use mathlib.Core.Path.{_∙_, ap}
 use borrow.Author.Needs.{needs}
 use borrow.Author.Tests.{lt-ltb, le-ltb}
-use Rattle.given.specs.Refusing.{refuse}
+use Rattle.answers.specs.Refusing.{refuse}
 use Rattle.lengths.specs.Answers.{sizeOutside}
 use Rattle.lengths.proofs.test_size.Statement.{statement}
 use Rattle.lengths.proofs.test_size.Tie as tie

@@ -1,6 +1,6 @@
 -- `plan::ask_query` meets its contract: it refuses by its one test, and a record that lies within the bytes is read.
 use borrow.Author.Needs.{needs}
-use Rattle.given.proofs.Refusals.{refused-given}
+use Rattle.answers.proofs.Refusals.{refused-given}
 use Rattle.plan.proofs.Asking.{record-within, query-given}
 use Rattle.plan.proofs.ask_query.Statement.{statement}
 use Rattle.plan.proofs.ask_query.Tie as tie

@@ -1,5 +1,4 @@
 -- `plan::count_queries` meets its contract: at each turn those counted and those still to count are all.
--- Assumes nothing.
 use Prim.Native.Nat.{_-_}
 use borrow.Author.Needs.{needs}
 use Rattle.plan.proofs.Counting.{Counting, counting-starts, counting-full, counting-stops, counting-goes-on}

@@ -1,7 +1,6 @@
 -- `plan::end_at` meets its contract: its test is the definition's.
--- Assumes nothing.
 use borrow.Author.Tests.{lt-ltb, le-ltb}
-use Rattle.plan.specs.Steps.{endAt}
+use Rattle.plan.specs.inner.Steps.{endAt}
 use Rattle.plan.proofs.end_at.Statement.{statement}
 use Rattle.plan.proofs.end_at.Tie as tie
 

@@ -1,5 +1,4 @@
 -- `plan::fixed_record_at` meets its contract: it reads a record, and then asks for the length of its content.
--- Assumes nothing.
 use Rattle.plan.proofs.Ways.{fixed-not-read, other-length, fixed-read}
 use borrow.Author.Needs.{needs}
 use Rattle.plan.proofs.fixed_record_at.Statement.{statement}

@@ -1,5 +1,4 @@
 -- `plan::number_at` meets its contract: two bytes that are each below 256 make a number that fits.
--- Assumes nothing.
 use Prim.Native.Nat.{_+_}
 use native.Mathlib.Omega.{arith}
 use Rattle.plan.proofs.Numbers.{number-there}

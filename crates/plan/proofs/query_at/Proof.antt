@@ -1,5 +1,4 @@
 -- `plan::query_at` meets its contract: its four numbers stand behind the header, 2 bytes each.
--- Assumes nothing.
 use borrow.Author.Needs.{needs}
 use Rattle.plan.proofs.query_at.Statement.{statement}
 use Rattle.plan.proofs.query_at.Tie as tie

@@ -1,6 +1,5 @@
 -- `plan::record_at` meets its contract: each test that fails is one of the things that can be wrong with a record, and where all
 -- hold the record is whole.
--- Assumes nothing.
 use Rattle.plan.proofs.Ways.{header-cut, content-cut, other-kind, read-here}
 use borrow.Author.Needs.{needs}
 use Rattle.plan.proofs.record_at.Statement.{statement}

@@ -3,7 +3,7 @@
 use mathlib.Core.Path.{sym, _∙_, ap}
 use native.Mathlib.Omega.{arith}
 use borrow.Author.Needs.{needs}
-use Rattle.given.specs.Refusing.{refuse}
+use Rattle.answers.specs.Refusing.{refuse}
 use Rattle.plan.proofs.Asking.{ends-before, left-before}
 use Rattle.plan.proofs.test_record.Statement.{statement}
 use Rattle.plan.proofs.test_record.Tie as tie

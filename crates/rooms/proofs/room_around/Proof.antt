@@ -1,10 +1,10 @@
 -- `rooms::room_around` meets its contract: a refusal is the first that holds, and growth from a cell that passed the
 -- tests gives the room.
 use borrow.Author.Needs.{needs}
-use Rattle.given.proofs.Refusals.{refused-given}
+use Rattle.answers.proofs.Refusals.{refused-given}
 use Rattle.floor.specs.Floor.{mapOf, spotOf}
 use Rattle.rooms.proofs.Rooms.{south}
-use Rattle.rooms.proofs.WaysOut.{cell-ready, room-found}
+use Rattle.rooms.proofs.Exits.{cell-ready, room-found}
 use Rattle.rooms.proofs.room_around.Statement.{statement}
 use Rattle.rooms.proofs.room_around.Tie as tie
 

@@ -1,7 +1,7 @@
 -- `rooms::test_cell` meets its contract. A line is a test: what it asks, its two answers, and the way out where it
 -- refuses; the last is that all pass.
 use borrow.Author.Needs.{needs}
-use Rattle.given.proofs.Refusals.{refusing, passing}
+use Rattle.answers.proofs.Refusals.{refusing, passing}
 use Rattle.floor.proofs.Tested.{floored}
 use Rattle.rooms.specs.Answers.{roomTests}
 use Rattle.rooms.proofs.test_cell.Statement.{statement}

@@ -2,10 +2,10 @@
 -- read from the filled table is the answer.
 use mathlib.Core.List.{[]}
 use borrow.Author.Needs.{needs}
-use Rattle.given.proofs.Refusals.{refused-given}
+use Rattle.answers.proofs.Refusals.{refused-given}
 use Rattle.floor.specs.Floor.{mapOf, spotOf}
 use Rattle.calls.proofs.Called.{ends-ready, within, ready}
-use Rattle.route.proofs.WaysOut.{fill-never, filled, find-done}
+use Rattle.route.proofs.Exits.{fill-never, filled, find-done}
 use Rattle.route.proofs.find_route.Statement.{statement}
 use Rattle.route.proofs.find_route.Tie as tie
 

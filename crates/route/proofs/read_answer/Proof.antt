@@ -1,7 +1,7 @@
 -- `route::read_answer` meets its contract: each case is handed on.
 use mathlib.Core.Path.{sym, ap}
 use borrow.Author.Needs.{needs}
-use Rattle.route.specs.Inner.{readAnswer}
+use Rattle.route.specs.inner.Answering.{readAnswer}
 use Rattle.route.proofs.read_answer.Statement.{statement}
 use Rattle.route.proofs.read_answer.Tie as tie
 

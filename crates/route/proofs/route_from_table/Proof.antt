@@ -2,10 +2,10 @@
 -- and what is read from a right table is the answer.
 use mathlib.Core.List.{[]}
 use borrow.Author.Needs.{needs}
-use Rattle.given.proofs.Refusals.{refused-given}
+use Rattle.answers.proofs.Refusals.{refused-given}
 use Rattle.floor.specs.Floor.{mapOf, spotOf}
 use Rattle.calls.proofs.Called.{ends-ready, within, ready}
-use Rattle.route.proofs.WaysOut.{check-wrong, table-filled, read-done}
+use Rattle.route.proofs.Exits.{check-wrong, table-filled, read-done}
 use Rattle.route.proofs.route_from_table.Statement.{statement}
 use Rattle.route.proofs.route_from_table.Tie as tie
 

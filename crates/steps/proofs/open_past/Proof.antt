@@ -2,7 +2,7 @@
 use native.Mathlib.Omega.{arith}
 use borrow.Author.Needs.{needs}
 use borrow.Author.Tests.{lt-ltb, le-ltb}
-use Rattle.steps.specs.Leading.{openPast}
+use Rattle.steps.specs.inner.Leading.{openPast}
 use Rattle.steps.proofs.open_past.Statement.{statement}
 use Rattle.steps.proofs.open_past.Tie as tie
 

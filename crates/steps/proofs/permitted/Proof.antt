@@ -1,7 +1,7 @@
 -- `steps::permitted` meets its contract: each way out rewrites by the cells that were found open on the way.
 use mathlib.Core.Path.{sym, _∙_}
 use borrow.Author.Tests.{not-true, not-false}
-use Rattle.steps.specs.Leading.{permitted}
+use Rattle.steps.specs.inner.Leading.{permitted}
 use borrow.Author.Needs.{needs}
 use Rattle.steps.proofs.permitted.Statement.{statement}
 use Rattle.steps.proofs.permitted.Tie as tie

@@ -1,10 +1,10 @@
 -- `table::check` meets its contract: a refusal is the first that holds, and what passed the tests is what the pass
 -- over the cells asks for.
 use borrow.Author.Needs.{needs}
-use Rattle.given.proofs.Refusals.{refused-kept}
+use Rattle.answers.proofs.Refusals.{refused-kept}
 use Rattle.floor.specs.Floor.{mapOf, spotOf}
 use Rattle.calls.proofs.Called.{goal-ready, within, ready}
-use Rattle.table.proofs.WaysOut.{judged}
+use Rattle.table.proofs.Exits.{judged}
 use Rattle.table.proofs.check.Statement.{statement}
 use Rattle.table.proofs.check.Tie as tie
 

@@ -1,10 +1,10 @@
 -- `table::fill` meets its contract: a refusal is the first that holds, and what passed the tests is what filling by
--- waves asks for.
+-- bands asks for.
 use borrow.Author.Needs.{needs}
-use Rattle.given.proofs.Refusals.{refused-kept}
+use Rattle.answers.proofs.Refusals.{refused-kept}
 use Rattle.floor.specs.Floor.{mapOf, spotOf}
 use Rattle.calls.proofs.Called.{goal-ready, within, ready}
-use Rattle.table.proofs.WaysOut.{fill-done}
+use Rattle.table.proofs.Exits.{fill-done}
 use Rattle.table.proofs.fill.Statement.{statement}
 use Rattle.table.proofs.fill.Tie as tie
 

@@ -1,5 +1,4 @@
 -- `ways_runs::main` ends: the measure is what is left of the arguments.
--- Assumes nothing.
 use Prim.Native.Nat.{_-_, _≤_}
 use borrow.Author.Needs.{needs}
 use Rattle.ways_runs.proofs.main.Statement.{statement}

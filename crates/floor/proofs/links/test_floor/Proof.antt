@@ -1,7 +1,7 @@
 -- `floor::links::test_floor` meets its contract. A line is a test: what it asks, its two answers, and the way out
 -- where it refuses; the last is that all pass.
 use borrow.Author.Needs.{needs}
-use Rattle.given.proofs.Refusals.{refusing, passing, passes-here}
+use Rattle.answers.proofs.Refusals.{refusing, passing, passes-here}
 use Rattle.floor.specs.Tests.{floorTested}
 use Rattle.floor.proofs.Tested.{sides-asked, length-asked}
 use Rattle.floor.proofs.links.test_floor.Statement.{statement}

@@ -2,7 +2,7 @@
 use mathlib.Core.Path.{_∙_, ap}
 use borrow.Author.Needs.{needs}
 use borrow.Author.Tests.{lt-ltb, le-ltb}
-use Rattle.given.specs.Refusing.{refuse}
+use Rattle.answers.specs.Refusing.{refuse}
 use Rattle.floor.specs.Refusals.{offFloor}
 use Rattle.floor.proofs.links.test_on.Statement.{statement}
 use Rattle.floor.proofs.links.test_on.Tie as tie

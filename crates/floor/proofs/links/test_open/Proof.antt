@@ -2,7 +2,7 @@
 use mathlib.Core.Path.{_∙_, ap}
 use mathlib.Core.Bool.{Bool, not}
 use borrow.Author.Needs.{needs}
-use Rattle.given.specs.Refusing.{refuse}
+use Rattle.answers.specs.Refusing.{refuse}
 use Rattle.floor.proofs.links.test_open.Statement.{statement}
 use Rattle.floor.proofs.links.test_open.Tie as tie
 

@@ -1,7 +1,7 @@
 -- `floor::links::test_places` meets its contract. A line is a test: what it asks, its two answers, and the way out
 -- where it refuses; the last is that all pass.
 use borrow.Author.Needs.{needs}
-use Rattle.given.proofs.Refusals.{refusing, passing}
+use Rattle.answers.proofs.Refusals.{refusing, passing}
 use Rattle.floor.specs.Tests.{placesTested}
 use Rattle.floor.proofs.links.test_places.Statement.{statement}
 use Rattle.floor.proofs.links.test_places.Tie as tie

@@ -1,5 +1,0 @@
-pub mod Written
-pub mod Entry
-pub mod Filled
-pub mod Made
-pub mod Best

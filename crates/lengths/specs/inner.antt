@@ -1,0 +1,2 @@
+pub mod AtMost
+pub mod Keys

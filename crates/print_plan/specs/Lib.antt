@@ -1,0 +1,4 @@
+pub mod Query
+pub mod Lines
+pub mod Shown
+pub mod inner

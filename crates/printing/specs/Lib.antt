@@ -1,4 +1,0 @@
-pub mod Query
-pub mod Lines
-pub mod Shown
-pub mod Inner

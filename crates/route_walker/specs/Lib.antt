@@ -1,0 +1,3 @@
+pub mod Route
+pub mod Legs
+pub mod inner

@@ -1,0 +1,4 @@
+pub mod Entry
+pub mod Filled
+pub mod Made
+pub mod inner

@@ -1,3 +1,0 @@
-pub mod Route
-pub mod Legs
-pub mod Walkers
