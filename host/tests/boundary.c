@@ -1,7 +1,8 @@
 /*
- * Tests over the C boundary: every function of ways.h against the second solver, on many random inputs, sound and damaged,
- * with buffers too short and too long and guards around them. Given a number, it seeds the random inputs; given a second,
- * it says how many floors are tried. Floors are tried in floors.c.
+ * Tests over the C boundary: every function of ways.h against the second solver, on many random inputs, sound and
+ * damaged, with buffers too short and too long and guards around them. Given a number, it seeds the random inputs; given
+ * a second, it says how many floors are tried. Floors are tried in floors.c. No expression draws two random numbers in
+ * an order that C leaves open, so a seed means the same trials under every compiler.
  */
 #include <stdio.h>
 #include <stdlib.h>
@@ -99,8 +100,10 @@ static void try_plan(size_t i)
         at = put_record(whole, at, 4, 8);
     length = at;
     if (below(2) == 0)
-        for (k = below(3); k > 0; k--)
-            whole[below(below(2) ? 24 : length)] = (uint8_t)(below(2) ? below(9) : random64());
+        for (k = below(3); k > 0; k--) {
+            size_t where = below(below(2) ? 24 : length);
+            whole[where] = (uint8_t)(below(2) ? below(9) : random64());
+        }
     if (below(4) == 0)
         length = below(length + 1);
     bytes = lent_at(&map, length, (int)below(2));
@@ -174,8 +177,10 @@ int main(int argc, char **argv)
     try_worked();
     for (i = 0; i < 20 * floors; i++)
         try_lengths(i);
-    for (i = 0; i < floors; i++)
-        try_floor(a_side(), a_side(), i % 3 == 0, i);
+    for (i = 0; i < floors; i++) {
+        size_t w = a_side(), h = a_side();
+        try_floor(w, h, i % 3 == 0, i);
+    }
     try_floor(128, 128, 0, floors);
     for (i = 0; i < 2 * floors; i++)
         try_plan(i);

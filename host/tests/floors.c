@@ -143,13 +143,20 @@ static void try_fill(const asked *a, size_t i)
 /* an entry that is not the one that should be there */
 static uint32_t another_entry(uint32_t entry)
 {
+    uint32_t straight, diagonal;
     switch (below(7)) {
     case 0: return WAYS_MARK;
     case 1: return entry + 1;
     case 2: return entry - 1;
     case 3: return entry + 65536;
-    case 4: return (uint32_t)(16384 + below(4)) << 16 | (uint32_t)below(4);
-    case 5: return (uint32_t)below(4) << 16 | (uint32_t)(16383 + below(3));
+    case 4:
+        straight = (uint32_t)(16384 + below(4));
+        diagonal = (uint32_t)below(4);
+        return straight << 16 | diagonal;
+    case 5:
+        straight = (uint32_t)below(4);
+        diagonal = (uint32_t)(16383 + below(3));
+        return straight << 16 | diagonal;
     default: return (uint32_t)random64();
     }
 }
