@@ -1,5 +1,6 @@
 #!/usr/bin/env python3
-"""Makes the plans that the program crate ways_runs is run on, with what "ways" prints for each, and the sample plan of a warehouse.
+"""Makes the plans that the program crate ways_runs is run on, with what "ways" prints for each, and the samples: a warehouse with
+loading bays, the worked example, and what "ways" prints for them and for samples/warehouse.plan, which `./plan` makes of its drawing.
 
     python3 tools/make_runs.py          writes crates/ways_runs/data, args and stdout, and samples/
     python3 tools/make_runs.py --check  compares them with what stands there, and writes nothing
@@ -293,7 +294,7 @@ def runs():
     ]
 
 
-def warehouse():
+def bays():
     """60 × 40 cells of 50 cm: racks two cells wide along aisles of two, with cross aisles, and a wall with doors before the loading bays."""
     blocked = set()
     for x in range(4, 56, 4):
@@ -314,9 +315,10 @@ def main():
     files = {crate / "data" / name: data for name, data in plans}
     files[crate / "args"] = "".join(name + "\n" for name, _ in plans).encode()
     files[crate / "stdout"] = "".join(f"{name}\n{printed(data)}" for name, data in plans).encode()
-    files[ROOT / "samples" / "warehouse.plan"] = warehouse()
-    files[ROOT / "samples" / "warehouse.out"] = printed(warehouse()).encode()
-    files[ROOT / "samples" / "example.plan"] = EXAMPLE
+    samples = {"bays": bays(), "example": EXAMPLE, "warehouse": (ROOT / "samples" / "warehouse.plan").read_bytes()}
+    for name, data in samples.items():
+        files[ROOT / "samples" / f"{name}.plan"] = data
+        files[ROOT / "samples" / f"{name}.out"] = printed(data).encode()
     for path, data in files.items():
         if check:
             if not path.is_file() or path.read_bytes() != data:
