@@ -5,17 +5,6 @@
 #include <stdio.h>
 #include "ways.h"
 
-static const char *const HEADINGS[8] = {
-    "north", "northeast", "east", "southeast", "south", "southwest", "west", "northwest"
-};
-
-static const char *const MEANINGS[15] = {
-    "done", "width or height outside 1 to 128", "map of the wrong length", "a bit past the width is set",
-    "table not width times height entries", "start off the floor", "goal off the floor", "start blocked", "goal blocked",
-    "no way", "leg buffer too short", "table not right", "a length part above 16,383",
-    "cell size outside 1 to 1,000", "plan broken"
-};
-
 static const char *const ONES[20] = {
     "", "one", "two", "three", "four", "five", "six", "seven", "eight", "nine", "ten", "eleven", "twelve", "thirteen",
     "fourteen", "fifteen", "sixteen", "seventeen", "eighteen", "nineteen"
@@ -49,7 +38,7 @@ static void print_legs(const uint8_t *legs, size_t count)
     if (count == 0)
         printf("you are there");
     for (i = 0; i < count; i++) {
-        printf("%s%s ", i == 0 ? "" : ", ", HEADINGS[legs[2 * i]]);
+        printf("%s%s ", i == 0 ? "" : ", ", ways_heading_name(legs[2 * i]));
         print_count(legs[2 * i + 1]);
     }
 }
@@ -73,13 +62,13 @@ static void say_way(const uint8_t *bytes, const ways_plan_answer *plan, const wa
                                               query->start_column, query->start_row, query->goal_column, query->goal_row,
                                               table, lent, legs, sizeof legs);
     if (route.number != WAYS_DONE) {
-        printf("%s\n", MEANINGS[route.number]);
+        printf("%s\n", ways_meaning(route.number));
         return;
     }
     print_legs(legs, route.legs);
     distance = ways_distance((uint32_t)plan->size, (uint32_t)route.straight, (uint32_t)route.diagonal);
     if (distance.number != WAYS_DONE) {
-        printf("; %s\n", MEANINGS[distance.number]);
+        printf("; %s\n", ways_meaning(distance.number));
         return;
     }
     printf("; ");
@@ -94,12 +83,12 @@ int main(void)
     ways_plan_answer plan = ways_read_plan(bytes, length);
     size_t i;
     if (plan.number != WAYS_DONE) {
-        printf("%s at %zu\n", MEANINGS[plan.number], plan.offset);
+        printf("%s at %zu\n", ways_meaning(plan.number), plan.offset);
         return 1;
     }
     printf("a floor of %zu by %zu cells of %zu centimetres\n", plan.width, plan.height, plan.size);
     for (i = 0; i < plan.queries; i++) {
-        ways_query_answer query = ways_query(bytes, length, plan.first_query + 12 * i);
+        ways_query_answer query = ways_query(bytes, length, plan.first_query + WAYS_QUERY_BYTES * i);
         printf("%zu: ", i + 1);
         say_way(bytes, &plan, &query);
     }
