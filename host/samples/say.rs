@@ -2,13 +2,29 @@
 //! would say them, with the distance spoken.
 use std::io::Read;
 use std::process::ExitCode;
-use ways::{distance, find_route, query, read_plan, Floor, Length, Plan, Query, Refusal};
-
-const HEADINGS: [&str; 8] = ["north", "northeast", "east", "southeast", "south", "southwest", "west", "northwest"];
+use ways::{distance, find_route, query, read_plan, table_entries, Floor, Legs, Length, Plan, Query, Refusal};
 
 const ONES: [&str; 20] = [
-    "", "one", "two", "three", "four", "five", "six", "seven", "eight", "nine", "ten", "eleven", "twelve", "thirteen",
-    "fourteen", "fifteen", "sixteen", "seventeen", "eighteen", "nineteen",
+    "",
+    "one",
+    "two",
+    "three",
+    "four",
+    "five",
+    "six",
+    "seven",
+    "eight",
+    "nine",
+    "ten",
+    "eleven",
+    "twelve",
+    "thirteen",
+    "fourteen",
+    "fifteen",
+    "sixteen",
+    "seventeen",
+    "eighteen",
+    "nineteen",
 ];
 
 const TENS: [&str; 10] = ["", "", "twenty", "thirty", "forty", "fifty", "sixty", "seventy", "eighty", "ninety"];
@@ -24,14 +40,11 @@ fn count_in_words(count: usize) -> String {
     }
 }
 
-fn legs_in_words(legs: &[u8]) -> String {
-    if legs.is_empty() {
+fn legs_in_words(legs: Legs<'_>) -> String {
+    let said: Vec<String> = legs.map(|leg| format!("{} {}", leg.heading, count_in_words(leg.count.into()))).collect();
+    if said.is_empty() {
         return "you are there".to_string();
     }
-    let said: Vec<String> = legs
-        .chunks_exact(2)
-        .map(|leg| format!("{} {}", HEADINGS[leg[0] as usize], count_in_words(leg[1] as usize)))
-        .collect();
     said.join(", ")
 }
 
@@ -43,16 +56,13 @@ fn distance_in_words(size: usize, length: Length) -> Result<String, Refusal> {
 
 /// One query's line.
 fn way_in_words(bytes: &[u8], plan: &Plan, query: &Query) -> Result<String, Refusal> {
-    let floor = Floor {
-        width: plan.width,
-        height: plan.height,
-        map: &bytes[plan.map_at..plan.map_at + plan.map_length],
-    };
+    let floor =
+        Floor { width: plan.width, height: plan.height, map: &bytes[plan.map_at..plan.map_at + plan.map_length] };
     // a floor that is too large is refused before the table is looked at
-    let mut table = vec![0u32; (plan.width * plan.height).min(128 * 128)];
-    let mut legs = [0u8; 2 * 16_383];
+    let mut table = vec![0u32; table_entries(plan.width, plan.height).min(ways::LARGEST_TABLE)];
+    let mut legs = [0u8; ways::LARGEST_LEGS];
     let route = find_route(floor, query.start, query.goal, &mut table, &mut legs)?;
-    let said = legs_in_words(&legs[..2 * route.legs]);
+    let said = legs_in_words(route.walk(&legs));
     Ok(match distance_in_words(plan.size, route.length) {
         Ok(distance) => format!("{said}; {distance}"),
         Err(refusal) => format!("{said}; {refusal}"),
@@ -74,7 +84,8 @@ fn main() -> ExitCode {
     };
     println!("a floor of {} by {} cells of {} centimetres", plan.width, plan.height, plan.size);
     for i in 0..plan.queries {
-        let said = query(&bytes, plan.first_query + 12 * i).and_then(|query| way_in_words(&bytes, &plan, &query));
+        let said = query(&bytes, plan.first_query + ways::QUERY_BYTES * i)
+            .and_then(|query| way_in_words(&bytes, &plan, &query));
         match said {
             Ok(said) => println!("{}: {said}", i + 1),
             Err(refusal) => println!("{}: {refusal}", i + 1),

@@ -5,7 +5,9 @@ mod second;
 
 use asked::{for_each_floor, number_of, rounds, Asked, Lent, Random};
 use second::{Pair, MARK};
-use ways::{check, compare, distance, fill, find_route, query, read_plan, room, route_from_table, Cell, Length, Refusal};
+use ways::{
+    check, compare, distance, fill, find_route, query, read_plan, room, route_from_table, Cell, Length, Refusal,
+};
 
 const OF_TABLE: [usize; 6] = [1, 2, 3, 4, 6, 8];
 const OF_ROUTE: [usize; 8] = [1, 2, 3, 4, 5, 6, 7, 8];
@@ -51,8 +53,15 @@ fn fills() {
 /// Another number in the place of an entry.
 fn another(random: &mut Random, entry: u32) -> u32 {
     let limit = 16_383;
-    [MARK, entry.wrapping_add(1), entry.wrapping_sub(1), entry.wrapping_add(1 << 16), (limit + 1) << 16, limit + 1, random.next() as u32]
-        [random.below(7)]
+    [
+        MARK,
+        entry.wrapping_add(1),
+        entry.wrapping_sub(1),
+        entry.wrapping_add(1 << 16),
+        (limit + 1) << 16,
+        limit + 1,
+        random.next() as u32,
+    ][random.below(7)]
 }
 
 #[test]
@@ -105,7 +114,10 @@ fn hold_route(asked: &Asked, answer: Result<ways::Route, Refusal>, legs: &mut Le
     }
     let straight = headings.iter().filter(|&&heading| heading % 2 == 0).count() as u32;
     let length = Length { straight, diagonal: headings.len() as u32 - straight };
-    assert_eq!(answer, Ok(ways::Route { length, legs: count }));
+    let route = ways::Route { length, legs: count };
+    assert_eq!(answer, Ok(route));
+    let walked: Vec<u8> = route.walk(legs.part()).flat_map(|leg| [leg.heading.number(), leg.count]).collect();
+    assert_eq!(walked, expected);
     assert_eq!(legs.part()[..expected.len()], expected);
     legs.kept_but(expected.len());
 }

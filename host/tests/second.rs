@@ -120,7 +120,8 @@ impl Picture {
     /// The first cell whose entry is malformed or not what its neighbours make it.
     pub fn first_wrong(&self, goal: usize, table: &[u32]) -> Option<usize> {
         (0..table.len()).find(|&cell| {
-            let offers = self.steps(cell).into_iter().filter_map(|(heading, to)| Some(Pair::of(table[to])?.and_step(heading)));
+            let offers =
+                self.steps(cell).into_iter().filter_map(|(heading, to)| Some(Pair::of(table[to])?.and_step(heading)));
             let made = if cell == goal { Some(Pair::ZERO) } else { offers.min() };
             match made {
                 // a sum past the limit is no entry's
@@ -137,7 +138,10 @@ impl Picture {
         cells.sort_by_key(|&cell| lengths[cell]);
         let mut ways: Vec<Option<Vec<u8>>> = vec![None; lengths.len()];
         for cell in cells {
-            let shortest = self.steps(cell).into_iter().filter(|&(heading, to)| lengths[to].map(|l| l.and_step(heading)) == lengths[cell]);
+            let shortest = self
+                .steps(cell)
+                .into_iter()
+                .filter(|&(heading, to)| lengths[to].map(|l| l.and_step(heading)) == lengths[cell]);
             let way = shortest.map(|(heading, to)| [&[heading as u8], ways[to].as_deref().unwrap()].concat()).min();
             ways[cell] = Some(way.unwrap_or_default());
             if cell == start {
@@ -149,7 +153,15 @@ impl Picture {
 
     /// The same by trying every way that visits no cell twice, shorter first and then in dictionary order.
     pub fn route_of_all(&self, start: usize, goal: usize) -> Option<Vec<u8>> {
-        fn walk(picture: &Picture, cell: usize, goal: usize, length: Pair, seen: &mut Vec<usize>, way: &mut Vec<u8>, best: &mut Option<(Pair, Vec<u8>)>) {
+        fn walk(
+            picture: &Picture,
+            cell: usize,
+            goal: usize,
+            length: Pair,
+            seen: &mut Vec<usize>,
+            way: &mut Vec<u8>,
+            best: &mut Option<(Pair, Vec<u8>)>,
+        ) {
             if cell == goal {
                 let found = (length, way.clone());
                 if best.as_ref().map_or(true, |least| found < *least) {

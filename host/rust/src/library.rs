@@ -61,7 +61,12 @@ pub struct QueryAnswer {
 }
 
 extern "C" {
-    fn ways_compare(first_straight: u32, first_diagonal: u32, second_straight: u32, second_diagonal: u32) -> CompareAnswer;
+    fn ways_compare(
+        first_straight: u32,
+        first_diagonal: u32,
+        second_straight: u32,
+        second_diagonal: u32,
+    ) -> CompareAnswer;
     fn ways_distance(size: u32, straight: u32, diagonal: u32) -> DistanceAnswer;
     fn ways_fill(
         width: usize,
@@ -111,7 +116,14 @@ extern "C" {
         legs: *mut u8,
         legs_length: usize,
     ) -> RouteAnswer;
-    fn ways_room(width: usize, height: usize, map: *const u8, map_length: usize, column: usize, row: usize) -> RoomAnswer;
+    fn ways_room(
+        width: usize,
+        height: usize,
+        map: *const u8,
+        map_length: usize,
+        column: usize,
+        row: usize,
+    ) -> RoomAnswer;
     fn ways_read_plan(bytes: *const u8, length: usize) -> PlanAnswer;
     fn ways_query(bytes: *const u8, length: usize, at: usize) -> QueryAnswer;
 }
