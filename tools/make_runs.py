@@ -1,6 +1,7 @@
 #!/usr/bin/env python3
-"""Makes the plans that the program crate ways_runs is run on, with what "ways" prints for each, and the samples: a warehouse with
-loading bays, the worked example, and what "ways" prints for them and for samples/warehouse.plan, which `./plan` makes of its drawing.
+"""Makes the plans that the program crate ways_runs is run on, with what "ways" prints for each, and the samples: a
+warehouse with loading bays, the worked example, and what "ways" prints for them and for samples/warehouse.plan, which
+`./plan` makes of its drawing.
 
     python3 tools/make_runs.py          writes crates/ways_runs/data, args and stdout, and samples/
     python3 tools/make_runs.py --check  compares them with what stands there, and writes nothing
