@@ -2,6 +2,8 @@
 //
 // It prints, for each kind of call, how many were compared and how many differed, and the same of the entries and bytes that they left; then how
 // often each number was the answer; then, over calls with one fault planted in each, how many were compared and how many differed: all must.
+#![tactic(auto)]
+
 mod bent;
 mod families;
 mod measures;

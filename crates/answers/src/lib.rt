@@ -1,4 +1,6 @@
 // What the calls share: a refusal, and what a test answers.
+#![tactic(auto)]
+
 ghost use Rattle.std.specs.Prelude.{◌≡◌};
 ghost use Rattle.answers.specs.Refusing.{refuse, refuse_at};
 ghost use Rattle.answers.specs.inner.Handing.{refusal_of};

@@ -1,4 +1,6 @@
 // The tests of calls that take a table: to a goal, and from a start to a goal.
+#![tactic(auto)]
+
 ghost use Rattle.std.specs.Prelude.{◌≡◌};
 ghost use Rattle.answers.specs.Refusing.{first_refusal};
 ghost use Rattle.calls.specs.Calls.{to_goal_of, goal_tests, route_of, route_tests};

@@ -1,4 +1,6 @@
 // The worked cases that are run, not proved: what the entry points answer is printed.
+#![tactic(auto)]
+
 
 // Ends a line that says a number.
 fn say_number(label: &[u8], number: usize) {

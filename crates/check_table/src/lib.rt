@@ -1,5 +1,7 @@
 // The inner pass of checking a length table: the lowest cell whose entry is malformed, or not what its neighbours make
 // it. One pass over the cells, in cell order, through a window of three rows of numbers, one number for each cell.
+#![tactic(auto)]
+
 ghost use Rattle.std.specs.Prelude.{◌<◌, length};
 ghost use Rattle.floor.specs.Floor.{map_of, cells};
 ghost use Rattle.steps.specs.Step.{steps_of};

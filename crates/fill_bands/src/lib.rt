@@ -2,6 +2,8 @@
 // settled. Its cells take all their steps, in whatever order; what they reach lies in the next band or, by a diagonal
 // step, in the one after that. The goal's places take their steps first and are never queued, so that the queue has at
 // most one cell fewer than the floor.
+#![tactic(auto)]
+
 ghost use Rattle.fill_steps.specs.inner.Work.{at};
 ghost use Rattle.fill_bands.specs.inner.Pass.{Below, Place, Places, Parted, StepsBegun, StepsLeft, PassBegun, PassLeft};
 ghost use Rattle.fill_bands.specs.inner.Solved.{Loaded, Goals, GoalsDone, Solved};

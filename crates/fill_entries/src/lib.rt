@@ -1,4 +1,6 @@
 // The work array's numbers into the table.
+#![tactic(auto)]
+
 ghost use Rattle.std.specs.Prelude.{◌≡◌, ◌*◌, ◌/◌, ◌<◌, length};
 ghost use Rattle.lengths.specs.inner.Keys.{straight_key};
 ghost use Rattle.table_theory.specs.Entry.{pack};

@@ -1,4 +1,6 @@
 // The map's bytes into the work array.
+#![tactic(auto)]
+
 ghost use Rattle.std.specs.Prelude.{◌≡◌, ◌+◌, ◌-◌, ◌*◌, ◌<◌};
 ghost use Rattle.floor.specs.Floor.{map_of, bit};
 ghost use Rattle.floor.specs.inner.Ready.{SoundFloor};

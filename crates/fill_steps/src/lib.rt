@@ -6,6 +6,8 @@
 // division but by powers of two, and whether a diagonal step leads past the next band is one bit of the number: r +
 // 5741 >= 13860 is r + 73 >= 8192. A step out of a cell offers the cell that it leads to a number, its own and what the
 // step adds; the lesser number stays.
+#![tactic(auto)]
+
 ghost use Rattle.std.specs.Prelude.{◌≡◌, ◌+◌, ◌-◌, ◌/◌, ◌<◌, ◌≤◌, min, length};
 ghost use Rattle.fill_steps.specs.inner.Work.{unreached, stride, largest, highest, stepped, at, OffBorder, target, QueueRoom};
 ghost use Rattle.fill_steps.specs.inner.Taken.{Lowered, OfferMade, MaskRead, SideStep, SideAfter, PastSides, TakenLeft};

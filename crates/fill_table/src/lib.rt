@@ -1,5 +1,7 @@
 // Filling a length table by bands, from the map's bytes to the table's entries: the map is loaded into a work array,
 // all bands are passed, and the numbers that they leave are stored as entries.
+#![tactic(auto)]
+
 ghost use Rattle.std.specs.Prelude.{◌≤◌, length};
 ghost use Rattle.floor.specs.Floor.{map_of, cells};
 ghost use Rattle.floor.specs.inner.Ready.{Ready};

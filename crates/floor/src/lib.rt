@@ -1,4 +1,6 @@
 // The floor: accepting one, reading its cells, and the tests of floors and places.
+#![tactic(auto)]
+
 ghost use Rattle.floor.specs.Floor.{map_of};
 ghost use Rattle.floor.specs.Answers.{Accepts};
 

@@ -1,6 +1,8 @@
 // The library as a headset links it: every entry point as a C function on numbers, slices and plain structs. A slice
 // is a pointer and then a length. Each function promises what its Rattle function promises, told by the struct's
 // fields, and asks nothing of its caller.
+#![tactic(auto)]
+
 ghost use Rattle.floor.specs.Floor.{map_of, spot_of};
 ghost use Rattle.calls.specs.Calls.{to_goal_of, route_of};
 ghost use Rattle.lengths.specs.Answers.{Compares, Speaks};

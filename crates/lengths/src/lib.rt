@@ -1,5 +1,7 @@
 // Lengths: comparing two, and the distance spoken. A length is a pair, straight and diagonal steps, and stands for
 // straight + diagonal × √2; it is compared and rounded exactly, over whole numbers.
+#![tactic(auto)]
+
 ghost use Rattle.std.specs.Prelude.{◌≡◌, ◌+◌, ◌*◌, ◌-◌, ◌≤◌};
 ghost use Rattle.answers.specs.Refusing.{refuse, first_refusal};
 ghost use Rattle.lengths.specs.Order.{over, shorter as shorter_of};

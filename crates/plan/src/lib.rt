@@ -1,5 +1,7 @@
 // The plan reader (REFERENCE, "Plans"): any bytes are read as a chain of records, and the answer is what a
 // sound plan holds and where, or the place of the break.
+#![tactic(auto)]
+
 ghost use Rattle.std.specs.Prelude.{◌≡◌, ◌+◌, ◌≤◌, length, drop};
 ghost use Rattle.answers.specs.Refusing.{refuse};
 ghost use Rattle.plan.specs.Records.{number_in};

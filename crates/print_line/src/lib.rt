@@ -1,5 +1,7 @@
 // The lines that "ways" prints, each written as bytes into a lent buffer: what the first line says, and the line of a
 // query's answer.
+#![tactic(auto)]
+
 ghost use Rattle.std.specs.Prelude.{◌≡◌, false, [], ◌∷◌, ◌+◌, ◌≤◌, length};
 ghost use Rattle.lengths.specs.Answers.{size_outside};
 ghost use Rattle.lengths.specs.Distance.{Spoken};

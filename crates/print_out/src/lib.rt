@@ -1,4 +1,6 @@
 // Writing out what "ways" prints. The reading and writing themselves are what is left unproved.
+#![tactic(auto)]
+
 
 // Writes the lines for the input to standard output, a buffer at a time. There are at most 65 lines.
 pub fn print_all(input: &[u8], out: &mut [u8]) {

@@ -1,4 +1,6 @@
 // What "ways" prints for any input bytes: its lines, as bytes in a lent buffer.
+#![tactic(auto)]
+
 ghost use Rattle.std.specs.Prelude.{◌≡◌, false, ◌+◌, ◌*◌, ◌<◌, ◌≤◌, length};
 ghost use Rattle.io.specs.Counts.{IsPrefixLen};
 ghost use Rattle.lengths.specs.Answers.{size_outside};

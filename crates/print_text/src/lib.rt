@@ -1,6 +1,8 @@
 // What "ways" prints, as bytes in a lent buffer: numbers in decimal, words, and fields parted by one blank.
 //
 // Each function writes at a place, leaves every other byte as it was, and answers the place after what it wrote. Its caller sees to the room.
+#![tactic(auto)]
+
 ghost use Rattle.std.specs.Prelude.{◌≡◌, [], ◌∷◌, ◌+◌, ◌*◌, ◌<◌, ◌≤◌, length, take};
 ghost use Rattle.print_text.specs.Text.{newline, decimal, field, fields_after};
 ghost use Rattle.print_text.specs.Put.{Put};

@@ -1,4 +1,6 @@
 // Rooms: the room around a cell, as a rectangle of open cells.
+#![tactic(auto)]
+
 ghost use Rattle.std.specs.Prelude.{◌≡◌};
 ghost use Rattle.answers.specs.Refusing.{first_refusal};
 ghost use Rattle.floor.specs.Floor.{map_of, spot_of};

@@ -1,4 +1,6 @@
 // Routes: finding one, and reading one from a table that is checked first.
+#![tactic(auto)]
+
 ghost use Rattle.std.specs.Prelude.{◌≡◌};
 ghost use Rattle.calls.specs.Calls.{route_of};
 ghost use Rattle.route.specs.Answers.{Finds, ReadsTable};

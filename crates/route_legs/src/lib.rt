@@ -1,4 +1,6 @@
 // Reading a route from a table that keeps its promise: the first route and its legs.
+#![tactic(auto)]
+
 ghost use Rattle.std.specs.Prelude.{◌≡◌, ◌≢◌, ◌+◌, ◌*◌, ◌/◌, ◌%◌, ◌<◌, ◌≤◌, get_or, length, set};
 ghost use Rattle.floor.specs.Floor.{map_of};
 ghost use Rattle.floor.specs.inner.Ready.{SoundFloor};

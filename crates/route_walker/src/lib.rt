@@ -1,4 +1,6 @@
 // The walker: it reads its next heading from a table, and walks step by step and leg by leg.
+#![tactic(auto)]
+
 ghost use Rattle.std.specs.Prelude.{◌≡◌, ◌+◌, ◌*◌, ◌<◌, ◌≤◌, length};
 ghost use Rattle.lengths.specs.Order.{◌⊕◌, steps};
 ghost use Rattle.floor.specs.Floor.{map_of};

@@ -1,4 +1,6 @@
 // The eight headings, and the permitted steps.
+#![tactic(auto)]
+
 ghost use Rattle.std.specs.Prelude.{◌≡◌, ◌+◌, ◌*◌, ◌≤◌, ◌<◌};
 ghost use Rattle.floor.specs.Floor.{map_of};
 ghost use Rattle.steps.specs.Heading.{change_of};

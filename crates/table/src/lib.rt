@@ -1,4 +1,6 @@
 // The length table: filling one, and checking one from anyone.
+#![tactic(auto)]
+
 ghost use Rattle.calls.specs.Calls.{to_goal_of};
 ghost use Rattle.table.specs.Answers.{Fills, Checks};
 

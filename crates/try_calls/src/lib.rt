@@ -3,6 +3,8 @@
 // What calls leave stands in the lent buffers: the library's table in the memory from OURS on and its legs in a buffer of bytes, the solver's
 // in its own parts of the memory. Both are overwritten before a call and compared after it, with a fault planted in the library's where one is
 // asked for. Nothing is promised of what is found, but that every function ends, with no index out of range and no number that wraps.
+#![tactic(auto)]
+
 pub mod alter;
 mod left;
 mod library;

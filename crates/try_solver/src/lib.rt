@@ -2,6 +2,8 @@
 //
 // It shares no code, no table and no definition with the library, and it says nothing of its answers but that they come: every function is
 // proved to end, with no index out of range and no number that wraps. Its memory is lent by the caller, and may hold anything.
+#![tactic(auto)]
+
 pub mod ask;
 mod faults;
 pub mod grid;

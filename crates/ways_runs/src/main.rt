@@ -1,4 +1,6 @@
 // Runs what "ways" does on every file of data/ that an argument names: its name, then its lines.
+#![tactic(auto)]
+
 use libc::STDOUT_FILENO;
 
 // Prints the name of the file that an argument names, and the lines for it.
