@@ -9,7 +9,7 @@ use try_solver::grid;
 use try_solver::grid::{MAP, WORDS};
 
 // A family: its plan, how many floors it has, and their sides; of floors that look random the longest side, 12, 40 or 128.
-#[derive(Drop)]
+#[derive(Clone, Copy)]
 struct Family {
     plan: usize,
     floors: u64,

@@ -33,7 +33,7 @@ pub const FAULTS: usize = 9;
 
 // A trial: its plan, how many calls it has, its seed, the call that its calls are made of, some cells, how many calls come before the goals, how
 // many goals there are and how many starts for each, of which so many are tried thoroughly, and the last route that was found.
-#[derive(Drop)]
+#[derive(Clone, Copy)]
 pub struct Trial {
     pub plan: usize,
     pub calls: usize,
@@ -48,7 +48,7 @@ pub struct Trial {
 }
 
 // A call of a trial, and the way in which the table is altered before it.
-#[derive(Drop)]
+#[derive(Clone, Copy)]
 pub struct Step {
     pub call: Call,
     pub way: usize,

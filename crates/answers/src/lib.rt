@@ -6,14 +6,14 @@ ghost use Rattle.answers.specs.Refusing.{refuse, refuse_at};
 ghost use Rattle.answers.specs.inner.Handing.{refusal_of};
 
 // A refusal: its number, and the place, count or length that comes with it, else 0.
-#[derive(Drop)]
+#[derive(Clone, Copy)]
 pub struct Refusal {
     pub number: u8,
     pub place: usize,
 }
 
 // What a test answers, or several in their order: that it is passed, or the refusal that ends the call.
-#[derive(Drop)]
+#[derive(Clone, Copy)]
 pub enum Tested {
     Passed,
     Refused(Refusal),

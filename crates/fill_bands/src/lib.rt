@@ -9,7 +9,7 @@ ghost use Rattle.fill_bands.specs.inner.Pass.{Below, Place, Places, Parted, Step
 ghost use Rattle.fill_bands.specs.inner.Solved.{Loaded, Goals, GoalsDone, Solved};
 
 // The part of the queue that the next band has before it.
-#[derive(Drop)]
+#[derive(Clone, Copy)]
 pub struct Part {
     pub mid: usize,
     pub tail: usize,

@@ -93,7 +93,7 @@ fn mask_of(number: u32) -> u32
 }
 
 // Where the queue ends after a straight step, and the mask of the cell that it leads to.
-#[derive(Drop)]
+#[derive(Clone, Copy)]
 struct Side {
     tail: usize,
     mask: u32,

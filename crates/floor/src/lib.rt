@@ -14,14 +14,14 @@ mod padding;
 pub const LARGEST_SIDE: usize = 128;
 
 // A floor's width and height, 1 to 128 each.
-#[derive(Drop)]
+#[derive(Clone, Copy)]
 pub struct Sides {
     pub width: usize,
     pub height: usize,
 }
 
 // What accepting a floor answers: its sides, or the refusal.
-#[derive(Drop)]
+#[derive(Clone, Copy)]
 pub enum Accepted {
     Floor(Sides),
     Refused(Refusal),

@@ -19,7 +19,7 @@ mod structs;
 
 // Comparing: 1 for first shorter, 0 for first not shorter.
 #[repr(C)]
-#[derive(Drop)]
+#[derive(Clone, Copy)]
 pub struct CompareAnswer {
     pub number: usize,
     pub shorter: usize,
@@ -27,7 +27,7 @@ pub struct CompareAnswer {
 
 // The distance spoken.
 #[repr(C)]
-#[derive(Drop)]
+#[derive(Clone, Copy)]
 pub struct DistanceAnswer {
     pub number: usize,
     pub centimetres: usize,
@@ -35,7 +35,7 @@ pub struct DistanceAnswer {
 
 // Checking a table: the first cell that differs.
 #[repr(C)]
-#[derive(Drop)]
+#[derive(Clone, Copy)]
 pub struct CheckAnswer {
     pub number: usize,
     pub cell: usize,
@@ -43,7 +43,7 @@ pub struct CheckAnswer {
 
 // A route: its length and leg count; or a refusal's place, the leg count of 10 and the first cell that differs of 11.
 #[repr(C)]
-#[derive(Drop)]
+#[derive(Clone, Copy)]
 pub struct RouteAnswer {
     pub number: usize,
     pub place: usize,
@@ -54,7 +54,7 @@ pub struct RouteAnswer {
 
 // A room: its first and last columns and rows.
 #[repr(C)]
-#[derive(Drop)]
+#[derive(Clone, Copy)]
 pub struct RoomAnswer {
     pub number: usize,
     pub left: usize,
@@ -65,7 +65,7 @@ pub struct RoomAnswer {
 
 // A plan: what it holds and where, or the offset of the break.
 #[repr(C)]
-#[derive(Drop)]
+#[derive(Clone, Copy)]
 pub struct PlanAnswer {
     pub number: usize,
     pub offset: usize,
@@ -80,7 +80,7 @@ pub struct PlanAnswer {
 
 // A query of a plan: the start's column and row, and the goal's.
 #[repr(C)]
-#[derive(Drop)]
+#[derive(Clone, Copy)]
 pub struct QueryAnswer {
     pub number: usize,
     pub start_column: usize,

@@ -12,14 +12,14 @@ ghost use Rattle.lengths.specs.inner.AtMost.{Within};
 use answers::{Refusal, Tested};
 
 // A length: straight steps, diagonal steps.
-#[derive(Drop)]
+#[derive(Clone, Copy)]
 pub struct Length {
     pub straight: u32,
     pub diagonal: u32,
 }
 
 // What comparing answers: first shorter, first not shorter, or a refusal.
-#[derive(Drop)]
+#[derive(Clone, Copy)]
 pub enum Compared {
     Shorter,
     NotShorter,
@@ -27,7 +27,7 @@ pub enum Compared {
 }
 
 // What the distance answers: its centimetres, or a refusal.
-#[derive(Drop)]
+#[derive(Clone, Copy)]
 pub enum Distance {
     Centimetres(u32),
     Refused(Refusal),

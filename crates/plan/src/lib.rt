@@ -11,7 +11,7 @@ ghost use Rattle.plan.specs.inner.Steps.{record_at, fixed_record_at, count_from,
 use answers::{Refusal, Tested};
 
 // What a sound plan holds, and where its map and its queries lie. The numbers are not judged.
-#[derive(Drop)]
+#[derive(Clone, Copy)]
 pub struct Plan {
     pub width: usize,
     pub height: usize,
@@ -23,14 +23,14 @@ pub struct Plan {
 }
 
 // The reader's answer: a sound plan, or a refusal with the offset of the break.
-#[derive(Drop)]
+#[derive(Clone, Copy)]
 pub enum Reading {
     Sound(Plan),
     Refused(Refusal),
 }
 
 // A query: the start's column and row, and the goal's.
-#[derive(Drop)]
+#[derive(Clone, Copy)]
 pub struct Query {
     pub start_col: usize,
     pub start_row: usize,
@@ -39,14 +39,14 @@ pub struct Query {
 }
 
 // What asking for a query answers: the query, or a refusal.
-#[derive(Drop)]
+#[derive(Clone, Copy)]
 pub enum Asked {
     Query(Query),
     Refused(Refusal),
 }
 
 // A record's content: where it begins, how long it is, and where the next record begins.
-#[derive(Drop)]
+#[derive(Clone, Copy)]
 struct Content {
     pub at: usize,
     pub len: usize,
@@ -54,14 +54,14 @@ struct Content {
 }
 
 // One record: read, or not there as it should be.
-#[derive(Drop)]
+#[derive(Clone, Copy)]
 enum Record {
     Read(Content),
     Broken,
 }
 
 // Whether the bytes end at an offset.
-#[derive(Drop)]
+#[derive(Clone, Copy)]
 enum End {
     Here,
     Later,

@@ -20,7 +20,7 @@ use route::Answer;
 use route_legs::Way;
 
 // What the first line says: a refusal, or the floor.
-#[derive(Drop)]
+#[derive(Clone, Copy)]
 pub enum Head {
     Refused(Refusal),
     Floor(Plan),

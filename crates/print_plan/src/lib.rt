@@ -22,7 +22,7 @@ mod heads;
 const LINE_ROOM: usize = 131190;
 
 // What was printed into a buffer: how many bytes, how many lines, and how many lines are left to print.
-#[derive(Drop)]
+#[derive(Clone, Copy)]
 pub struct Printed {
     pub length: usize,
     pub lines: usize,

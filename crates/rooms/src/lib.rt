@@ -12,7 +12,7 @@ use floor::{LARGEST_SIDE, links};
 mod growth;
 
 // A room: its first and last columns and rows.
-#[derive(Drop)]
+#[derive(Clone, Copy)]
 pub struct Room {
     pub left: usize,
     pub top: usize,
@@ -21,7 +21,7 @@ pub struct Room {
 }
 
 // What asking for a room answers: the room, or the refusal.
-#[derive(Drop)]
+#[derive(Clone, Copy)]
 pub enum Roomed {
     Room(Room),
     Refused(Refusal),

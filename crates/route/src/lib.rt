@@ -11,7 +11,7 @@ use floor::links;
 use route_legs::{RouteReading, Way};
 
 // What a call for a route answers: a way, with its length and leg count, or a refusal.
-#[derive(Drop)]
+#[derive(Clone, Copy)]
 pub enum Answer {
     Way(Way),
     Refused(Refusal),

@@ -17,14 +17,14 @@ use route_walker::Walker;
 use table_theory::MARK;
 
 // A way: its length and how many legs it has.
-#[derive(Drop)]
+#[derive(Clone, Copy)]
 pub struct Way {
     pub length: Length,
     pub legs: usize,
 }
 
 // What reading a route answers: a way, no way, or the leg count where the leg buffer is too short for it.
-#[derive(Drop)]
+#[derive(Clone, Copy)]
 pub enum RouteReading {
     Way(Way),
     NoWay,

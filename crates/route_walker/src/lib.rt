@@ -15,7 +15,7 @@ use lengths::Length;
 use steps::Lead;
 
 // A walker: the cell it stands on, the length so far, and the heading it takes next, 8 at the goal.
-#[derive(Drop)]
+#[derive(Clone, Copy)]
 pub struct Walker {
     pub cell: usize,
     pub length: Length,
@@ -23,7 +23,7 @@ pub struct Walker {
 }
 
 // A leg that was walked: its heading, its steps, and the walker after it.
-#[derive(Drop)]
+#[derive(Clone, Copy)]
 pub struct WalkedLeg {
     pub heading: usize,
     pub count: usize,

@@ -8,14 +8,14 @@ ghost use Rattle.floor.specs.inner.Ready.{SoundFloor};
 ghost use Rattle.steps.specs.inner.Leading.{open_past, permitted as permitted_of, lead_of};
 
 // Column and row change of a heading, each plus one.
-#[derive(Drop)]
+#[derive(Clone, Copy)]
 pub struct Change {
     pub column: usize,
     pub row: usize,
 }
 
 // Where a heading leads from a cell: to a cell by a permitted step, or nowhere.
-#[derive(Drop)]
+#[derive(Clone, Copy)]
 pub enum Lead {
     To(usize),
     Nowhere,

@@ -24,7 +24,7 @@ pub const CALLS: usize = 8;
 // A call: its kind, the line of the counts that it goes into, and its numbers, of which a kind takes some. It is made over so many bytes of
 // the map, entries of a table, and bytes of room for legs. A room is asked for around the start. A fault is planted in what the library says
 // or leaves (1 and more), or nowhere (0).
-#[derive(Drop)]
+#[derive(Clone, Copy)]
 pub struct Call {
     pub kind: usize,
     pub line: usize,
@@ -49,7 +49,7 @@ pub struct Call {
 pub const VALUES: usize = 6;
 
 // What a call said: the number given back, and the values that come with it, else 0.
-#[derive(Drop)]
+#[derive(Clone, Copy)]
 pub struct Said {
     pub number: usize,
     pub values: [usize; VALUES],

@@ -8,7 +8,7 @@ use crate::{ask, grid, judge, reach, sizes};
 
 // Where a walk is: the corner of its cell, the heading by which it came (8 before the first), how many steps its last leg has, and where that
 // leg stands among those that were written, the first at 2.
-#[derive(Drop)]
+#[derive(Clone, Copy)]
 struct Walk {
     corner: usize,
     heading: usize,
