@@ -2,6 +2,5 @@
 // and the theorem that ties the two together in proofs/. This crate has no function of its own.
 #![tactic(auto)]
 
-
 // The mark: a blocked cell, or an open one without a way to the goal.
 pub const MARK: u32 = 4294967295;

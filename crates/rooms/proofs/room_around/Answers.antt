@@ -1,0 +1,25 @@
+-- `rooms::room_around` meets its contract: a refusal is the first that holds, and growth from a cell that passed the
+-- tests gives the room.
+use borrow.Author.Rules.{rules}
+use Rattle.answers.proofs.Refusals.{refused_given}
+use Rattle.floor.specs.Floor.{map_of, spot_of}
+use Rattle.rooms.proofs.Rooms.{south}
+use Rattle.rooms.proofs.Exits.{cell_ready, room_found}
+use Rattle.rooms.proofs.room_around.Goals as goal
+
+pub north_end-top-requires : goal.north_end-top-requires
+north_end-top-requires c =
+    (cell_ready (map_of _ _ _) (spot_of _ _) _ c.test_cell-tested.ensures (search)).0
+
+pub west_end-requires : goal.west_end-requires
+west_end-requires c =
+    let (s, on) = cell_ready (map_of _ _ _) (spot_of _ _) _ c.test_cell-tested.ensures (search) in
+    record { sound_floor = s; bottom_lt_height = rw c.south_end-bottom.ensures (south (map_of _ _ _) _ _ on.row_on).within }
+
+pub east_end-requires : goal.east_end-requires
+east_end-requires c =
+    let (s, on) = cell_ready (map_of _ _ _) (spot_of _ _) _ c.test_cell-tested.ensures (search) in
+    record {
+      sound_floor = s;
+      bottom_lt_height = (rw c.south_end-bottom.ensures (south (map_of _ _ _) _ _ on.row_on).within, on.column_on);
+    }
