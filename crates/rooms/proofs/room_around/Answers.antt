@@ -11,6 +11,11 @@ pub north_end-top-requires : goal.north_end-top-requires
 north_end-top-requires c =
     (cell_ready (map_of _ _ _) (spot_of _ _) _ c.test_cell-tested.ensures (search)).0
 
+pub south_end-bottom-requires : goal.south_end-bottom-requires
+south_end-bottom-requires c =
+    let (s, on) = cell_ready (map_of _ _ _) (spot_of _ _) _ c.test_cell-tested.ensures (search) in
+    record { sound_floor = s; row_lt_height = on.row_on }
+
 pub west_end-requires : goal.west_end-requires
 west_end-requires c =
     let (s, on) = cell_ready (map_of _ _ _) (spot_of _ _) _ c.test_cell-tested.ensures (search) in

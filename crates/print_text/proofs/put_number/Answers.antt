@@ -1,0 +1,11 @@
+-- `print_text::put_number` meets its contract: the room that it asks for is enough for every number.
+use borrow.Author.Rules.{rules}
+use native.Mathlib.Omega.{arith}
+use Rattle.print_text.proofs.Fields.{number_fits}
+use Rattle.print_text.proofs.put_number.Goals as goal
+
+pub write_number-requires : goal.write_number-requires
+write_number-requires c = omega (arith, number_fits c.args.n (search rules))
+
+pub returns-clause-upper_bound : goal.returns-clause-upper_bound
+returns-clause-upper_bound c = omega (arith, number_fits c.args.n (search rules))
