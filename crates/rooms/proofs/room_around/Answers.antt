@@ -1,10 +1,8 @@
 -- `rooms::room_around` meets its contract: a refusal is the first that holds, and growth from a cell that passed the
 -- tests gives the room.
-use borrow.Author.Rules.{rules}
-use Rattle.answers.proofs.Refusals.{refused_given}
 use Rattle.floor.specs.Floor.{map_of, spot_of}
 use Rattle.rooms.proofs.Rooms.{south}
-use Rattle.rooms.proofs.Exits.{cell_ready, room_found}
+use Rattle.rooms.proofs.Exits.{cell_ready}
 use Rattle.rooms.proofs.room_around.Goals as goal
 
 pub north_end-top-requires : goal.north_end-top-requires

@@ -1,6 +1,5 @@
 -- `rooms::test_cell` meets its contract. A line is a test: what it asks, its two answers, and the way out where it
 -- refuses; the last is that all pass.
-use borrow.Author.Rules.{rules}
 use Rattle.answers.proofs.Refusals.{refusing, passing}
 use Rattle.floor.proofs.Tested.{floored}
 use Rattle.rooms.specs.Answers.{room_tests}

@@ -1,13 +1,10 @@
 -- `rooms::growth::column_open` meets its contract. The loop's invariant: all rows from `top` up to `row` are open. The
 -- measure is what is left.
 use mathlib.Core.Path.{sym, ◌∙◌}
-use Prim.Native.Nat.{◌+◌, ◌-◌, ◌≤◌}
 use native.Mathlib.Omega.{arith}
-use borrow.Author.Rules.{rules}
-use borrow.Author.Tests.{not-true, not-false}
 use Rattle.floor.specs.Floor.{map_of, open?}
 use Rattle.rooms.specs.Room.{column_open}
-use Rattle.rooms.proofs.Running.{AllPass, none_yet, one_after, part_passes, part_fails}
+use Rattle.rooms.proofs.Running.{part_passes, part_fails}
 use Rattle.rooms.proofs.growth.column_open.Goals as goal
 
 pub returns-then-not-open_at : goal.returns-then-not-open_at

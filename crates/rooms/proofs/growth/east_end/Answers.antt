@@ -1,13 +1,9 @@
 -- `rooms::growth::east_end` meets its contract. The loop's invariant: all past the start up to `right` pass. The
 -- measure is what is left of the width.
 use mathlib.Core.Path.{sym, ◌∙◌}
-use Prim.Native.Nat.{◌+◌, ◌-◌, ◌≤◌, ◌<◌}
 use native.Mathlib.Omega.{arith}
-use borrow.Author.Rules.{rules}
-use borrow.Author.Tests.{not-true, not-false}
-use Rattle.floor.specs.Floor.{map_of}
-use Rattle.rooms.specs.Room.{column_open, right_of}
-use Rattle.rooms.proofs.Running.{AllPass, none_yet, one_after, forward_is}
+use Rattle.rooms.specs.Room.{right_of}
+use Rattle.rooms.proofs.Running.{forward_is}
 use Rattle.rooms.proofs.growth.east_end.Goals as goal
 
 pub returns-then-not-column_open : goal.returns-then-not-column_open

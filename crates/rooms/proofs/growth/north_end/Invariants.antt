@@ -1,13 +1,8 @@
 -- `rooms::growth::north_end` meets its contract. The loop's invariant: all from `top` up to the start pass. The
 -- measure is `top`.
-use mathlib.Core.Path.{sym, ◌∙◌}
 use Prim.Native.Nat.{◌≤◌}
-use native.Mathlib.Omega.{arith}
-use borrow.Author.Rules.{rules}
-use borrow.Author.Tests.{not-true, not-false}
 use Rattle.floor.specs.Floor.{map_of, open?}
-use Rattle.rooms.specs.Room.{top_of}
-use Rattle.rooms.proofs.Running.{AllPass, none_yet, one_before, backward_is}
+use Rattle.rooms.proofs.Running.{AllPass}
 use Rattle.rooms.proofs.growth.north_end.Given as goal
 
 abbrev pub invariant-loop-top : goal.invariant-loop-top

@@ -1,13 +1,9 @@
 -- `rooms::growth::south_end` meets its contract. The loop's invariant: all past the start up to `bottom` pass. The
 -- measure is what is left of the height.
 use mathlib.Core.Path.{sym, ◌∙◌}
-use Prim.Native.Nat.{◌+◌, ◌-◌, ◌≤◌, ◌<◌}
 use native.Mathlib.Omega.{arith}
-use borrow.Author.Rules.{rules}
-use borrow.Author.Tests.{not-true, not-false}
-use Rattle.floor.specs.Floor.{map_of, open?}
 use Rattle.rooms.specs.Room.{bottom_of}
-use Rattle.rooms.proofs.Running.{AllPass, none_yet, one_after, forward_is}
+use Rattle.rooms.proofs.Running.{forward_is}
 use Rattle.rooms.proofs.growth.south_end.Goals as goal
 
 pub returns-then-not-open_at : goal.returns-then-not-open_at

@@ -1,13 +1,9 @@
 -- `rooms::growth::west_end` meets its contract. The loop's invariant: all from `left` up to the start pass. The
 -- measure is `left`.
-use mathlib.Core.Path.{sym, ◌∙◌}
 use Prim.Native.Nat.{◌≤◌}
-use native.Mathlib.Omega.{arith}
-use borrow.Author.Rules.{rules}
-use borrow.Author.Tests.{not-true, not-false}
 use Rattle.floor.specs.Floor.{map_of}
-use Rattle.rooms.specs.Room.{column_open, left_of}
-use Rattle.rooms.proofs.Running.{AllPass, none_yet, one_before, backward_is}
+use Rattle.rooms.specs.Room.{column_open}
+use Rattle.rooms.proofs.Running.{AllPass}
 use Rattle.rooms.proofs.growth.west_end.Given as goal
 
 abbrev pub invariant-loop-left : goal.invariant-loop-left
