@@ -2,8 +2,7 @@
 use Rattle.std.proofs.Common.{◌≡◌, ℕ, zero, suc, ◌-◌, ◌*◌, ◌/◌, ◌<◌, ◌≤◌, refl, ◌∙◌, arith}
 use lib.Bits.{bit_xor, xor_shr}
 use Rattle.fill_steps.specs.inner.Work.{unreached}
-use Rattle.fill_steps.proofs.newly.Statement.{statement}
-use Rattle.fill_steps.proofs.newly.Tie as tie
+use Rattle.fill_steps.proofs.newly.Goals as goal
 
 digits : (u v : ℕ) → u ≤ 1 → v ≤ u → bit_xor u v ≡ u - v
 digits zero zero a b = refl
@@ -16,11 +15,5 @@ digits (suc (suc u)) v a b = absurd (omega arith)
 first-digit : (n m : ℕ) → n < 2 * unreached → m ≤ n → bit_xor n m / unreached ≡ n / unreached - m / unreached
 first-digit n m a b = xor_shr n m 31 ∙ digits (n / unreached) (m / unreached) (omega arith) (omega arith)
 
-cast-result : tie.Need-overflow-cast-result
-cast-result c = omega (arith, first-digit _ _ (omega arith) c.requires)
-
-returns : tie.Need-returns
+pub returns : goal.returns
 returns c = let e = first-digit _ _ (omega arith) c.requires in (e, omega (arith, e))
-
-pub newly-spec : {M : Type 1} → statement M
-newly-spec = tie.close (tie.spec cast-result returns)

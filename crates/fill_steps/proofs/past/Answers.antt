@@ -2,8 +2,7 @@
 use Rattle.std.proofs.Common.{ℕ, ◌∙◌, ap₂, arith}
 use lib.Bits.{bit_or, or_zero_r, or_add_and, and_le_l, and_le_r}
 use Rattle.fill_steps.specs.inner.Taken.{PastSides}
-use Rattle.fill_steps.proofs.past.Statement.{statement}
-use Rattle.fill_steps.proofs.past.Tie as tie
+use Rattle.fill_steps.proofs.past.Goals as goal
 
 or-past : (n a b : ℕ) → PastSides n a b (bit_or n (bit_or a b))
 or-past n a b =
@@ -15,8 +14,5 @@ or-past n a b =
       both = λ e f. ap₂ (λ (u v : ℕ). bit_or n (bit_or u v)) e f ∙ or_zero_r n;
     }
 
-returns : tie.Need-returns
+pub returns : goal.returns
 returns c = or-past _ _ _
-
-pub past-spec : {M : Type 1} → statement M
-past-spec = tie.close (tie.spec returns)
