@@ -3,13 +3,8 @@
 use mathlib.Core.Path.{ap₂, ◌∙◌}
 use Prim.Native.Nat.{ℕ, ◌+◌, ◌*◌}
 use native.Mathlib.Omega.{arith}
-use borrow.Author.Rules.{rules}
-use Rattle.fill_entries.proofs.EntryParts.{packed_shut, packed_waits, packed_length, above, FoundParts, parts, packs}
+use Rattle.fill_entries.proofs.EntryParts.{packed_shut, packed_waits, packed_length, parts}
 use Rattle.fill_entries.proofs.entry_of.Goals as goal
-
--- where a length stands, it has its parts
-parted : (c : tie.After-whole-of) → FoundParts c.args.number c.whole_of-more.result
-parted c = parts _ _ c.requires c.if-number-eq0.false c.if-number-ge-UNREACHED.false c.whole_of-more.ensures
 
 pub returns-then-number-eq0 : goal.returns-then-number-eq0
 returns-then-number-eq0 c = packed_shut _ c.if-number-eq0.true
@@ -19,6 +14,6 @@ returns-then-number-ge-UNREACHED c = packed_waits _ c.if-number-ge-UNREACHED.tru
 
 pub returns : goal.returns
 returns c =
-    let k = parted c in
+    let k = parts _ _ c.requires c.if-number-eq0.false c.if-number-ge-UNREACHED.false c.whole_of-more.ensures in
     ap₂ (λ (s d : ℕ). s * 65536 + d) (omega (arith, k.straight)) k.diagonal
     ∙ packed_length _ c.if-number-eq0.false c.if-number-ge-UNREACHED.false

@@ -1,11 +1,7 @@
 -- `fill_entries::store_row` meets its contract. The invariant: the row's entries before this column are written.
 use Prim.Native.Nat.{◌*◌, ◌-◌, ◌≤◌}
-use native.Mathlib.Omega.{arith}
-use borrow.Author.Rules.{rules}
 use Rattle.table_theory.specs.inner.Written.{Written}
-use Rattle.table_theory.proofs.Writing.{written_none, written_more, written_all}
 use Rattle.fill_entries.specs.inner.Entries.{entry_in}
-use Rattle.fill_entries.proofs.EntryParts.{InTable, in_table}
 use Rattle.fill_entries.proofs.store_row.Given as goal
 
 abbrev pub invariant-loop-column : goal.invariant-loop-column
