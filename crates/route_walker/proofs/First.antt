@@ -65,6 +65,7 @@ module _ (G : Graph) (Goal : ℕ → Type 0) (rank : ℕ → ℕ) (one_way : (h 
 
   -- no shortest walk to the goal comes before it
   none_before : {x g : ℕ} {hs ks : List ℕ} {l m : Length} → Follows G Goal rank x hs l → Goal g → Walk G x g ks m → Shortest G Goal x m → Before rank ks hs → ⊥
+  none_before (arrived _) gg _ s b = elim b [ ]
   none_before (take f r) gg walk.stay s walk.shorter = goal_stays gg f.on
   none_before (take f r) gg (walk.step {h = k} {y = z} {l = m} t w) s (walk.lower p) =
       f.none_lower k z p (record { step = t; rest = m; there = tail_shortest G gg t (walk_way w) s; here = s })
