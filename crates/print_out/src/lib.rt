@@ -1,19 +1,39 @@
-// Writing out what "ways" prints. The reading and writing themselves are what is left unproved.
+// Reading what "ways" is given, and writing out what it prints. The reading and writing themselves are what is left unproved.
 #![tactic(auto)]
 
+ghost use Rattle.std.specs.Io.{ReadsAtMost};
 
-// Writes the lines for the input to standard output, a buffer at a time. There are at most 65 lines.
-pub fn print_all(input: &[u8], out: &mut [u8]) {
+use std::io;
+use std::io::{Read, Write};
+
+// Reads until the buffer is full or the input ends: how many bytes it put at the buffer's start.
+pub fn read_full<R: Read>(reader: &mut R, buffer: &mut [u8]) -> io::Result<usize>
+    ensures { ReadsAtMost result buffer.new }
+{
+    let mut done = 0;
+    while done < buffer.len() {
+        let count = reader.read(&mut buffer[done..])?;
+        if count == 0 {
+            break;
+        }
+        done += count;
+    }
+    Ok(done)
+}
+
+// Writes the lines for the input, a buffer at a time. There are at most 65 lines.
+pub fn print_all<W: Write>(writer: &mut W, input: &[u8], out: &mut [u8]) -> io::Result<()> {
     let mut from = 0;
     while from < 65 {
         let printed = print_plan::print_lines(input, from, out);
-        io::write_all(libc::STDOUT_FILENO, &out[..printed.length]);
+        writer.write_all(&out[..printed.length])?;
         if printed.left == 0 {
-            return;
+            return Ok(());
         }
         if printed.lines == 0 {
-            return;
+            return Ok(());
         }
         from += printed.lines;
     }
+    Ok(())
 }

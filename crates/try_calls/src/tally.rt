@@ -2,7 +2,7 @@
 // numbers was the answer.
 ghost use Rattle.std.specs.Prelude.{◌≤◌, ◌<◌};
 
-use libc::STDOUT_FILENO;
+use std::io;
 use try_solver::grid::WORDS;
 use try_solver::{ask, grid};
 
@@ -41,31 +41,31 @@ const SHOWN: usize = 16;
 const NONE: usize = 31;
 
 // Prints the name of a line.
-fn print_name(line: usize) {
+fn print_name(rt: &impl Print, line: usize) -> io::Result<()> {
     match line {
-        ask::FLOORS => say(b"floors: "),
-        ask::ROOMS => say(b"rooms: "),
-        ask::COMPARISONS => say(b"comparisons: "),
-        ask::DISTANCES => say(b"distances: "),
-        ask::TABLES => say(b"tables: "),
-        ask::CHECKS => say(b"checks of filled tables: "),
-        ask::FOUND_ROUTES => say(b"routes found: "),
-        ask::READ_ROUTES => say(b"routes read: "),
-        ONE_ALTERED => say(b"checks with one entry altered: "),
-        SOME_ALTERED => say(b"checks with several entries altered: "),
-        OTHER_CHECKS => say(b"checks of other tables: "),
-        EXACT_BUFFERS => say(b"leg buffers exactly long enough: "),
-        SHORT_BUFFERS => say(b"leg buffers one byte short: "),
-        EMPTY_BUFFERS => say(b"leg buffers empty: "),
-        ENTRIES => say(b"entries left in tables: "),
-        LEG_BYTES => say(b"bytes left in leg buffers: "),
-        _ => say(b"others: "),
+        ask::FLOORS => say(rt, "floors: "),
+        ask::ROOMS => say(rt, "rooms: "),
+        ask::COMPARISONS => say(rt, "comparisons: "),
+        ask::DISTANCES => say(rt, "distances: "),
+        ask::TABLES => say(rt, "tables: "),
+        ask::CHECKS => say(rt, "checks of filled tables: "),
+        ask::FOUND_ROUTES => say(rt, "routes found: "),
+        ask::READ_ROUTES => say(rt, "routes read: "),
+        ONE_ALTERED => say(rt, "checks with one entry altered: "),
+        SOME_ALTERED => say(rt, "checks with several entries altered: "),
+        OTHER_CHECKS => say(rt, "checks of other tables: "),
+        EXACT_BUFFERS => say(rt, "leg buffers exactly long enough: "),
+        SHORT_BUFFERS => say(rt, "leg buffers one byte short: "),
+        EMPTY_BUFFERS => say(rt, "leg buffers empty: "),
+        ENTRIES => say(rt, "entries left in tables: "),
+        LEG_BYTES => say(rt, "bytes left in leg buffers: "),
+        _ => say(rt, "others: "),
     }
 }
 
-// Prints bytes.
-fn say(text: &[u8]) {
-    io::write_all(STDOUT_FILENO, text);
+// Prints text.
+fn say(rt: &impl Print, text: &str) -> io::Result<()> {
+    rt.print(text)
 }
 
 // The line of a route's leg buffer, if it has legs and its buffer is exactly long enough, one byte short, or empty.
@@ -128,60 +128,60 @@ pub fn clear(words: &mut [u32; WORDS]) {
 }
 
 // Prints a count, and what it counts.
-fn print_count(words: &[u32; WORDS], at: usize, name: &[u8])
+fn print_count(rt: &impl Print, words: &[u32; WORDS], at: usize, name: &str) -> io::Result<()>
     requires { at < 204000 }
 {
     let count = grid::word(words, at);
-    io::print_decimal(STDOUT_FILENO, count as u64);
-    say(name);
+    print!(rt; "{count}")?;
+    say(rt, name)
 }
 
 // Prints how many of a line were compared, and how many differed.
-fn print_line(words: &[u32; WORDS], line: usize, title: &[u8])
+fn print_line(rt: &impl Print, words: &[u32; WORDS], line: usize, title: &str) -> io::Result<()>
     requires { line < 32 }
 {
-    say(title);
-    print_name(line);
-    print_count(words, COUNTS + 2 * line, b" compared, ");
-    print_count(words, COUNTS + 2 * line + 1, b" differed\n");
+    say(rt, title)?;
+    print_name(rt, line)?;
+    print_count(rt, words, COUNTS + 2 * line, " compared, ")?;
+    print_count(rt, words, COUNTS + 2 * line + 1, " differed\n")
 }
 
 // Prints so many lines, with a title.
-fn print_some(words: &[u32; WORDS], lines: usize, title: &[u8])
+fn print_some(rt: &impl Print, words: &[u32; WORDS], lines: usize, title: &str) -> io::Result<()>
     requires { lines ≤ 16 }
 {
     for line in 0..lines {
-        print_line(words, line, title);
+        print_line(rt, words, line, title)?;
     }
+    Ok(())
 }
 
 // Prints the lines of calls in which faults were planted.
-pub fn print_planted(words: &[u32; WORDS]) {
-    print_some(words, ask::CALLS, b"planted in ");
+pub fn print_planted(rt: &impl Print, words: &[u32; WORDS]) -> io::Result<()> {
+    print_some(rt, words, ask::CALLS, "planted in ")
 }
 
 // Prints how often a number was the answer; of those above 13, only if it was.
-fn print_answer(words: &[u32; WORDS], number: usize)
+fn print_answer(rt: &impl Print, words: &[u32; WORDS], number: usize) -> io::Result<()>
     requires { number ≤ 32 }
 {
     if 13 < number && grid::word(words, ANSWERS + number) == 0 {
-        return;
+        return Ok(());
     }
-    say(b"answer ");
-    io::print_decimal(STDOUT_FILENO, number as u64);
-    say(b": ");
-    print_count(words, ANSWERS + number, b" times\n");
+    print!(rt; "answer {number}: ")?;
+    print_count(rt, words, ANSWERS + number, " times\n")
 }
 
 // Prints how often each number was the answer.
-fn print_answers(words: &[u32; WORDS]) {
+fn print_answers(rt: &impl Print, words: &[u32; WORDS]) -> io::Result<()> {
     for number in 0..OTHER + 1 {
-        print_answer(words, number);
+        print_answer(rt, words, number)?;
     }
+    Ok(())
 }
 
 // Prints every line, and the answers.
-pub fn print(words: &[u32; WORDS]) {
-    print_some(words, SHOWN, b"");
-    print_answers(words);
+pub fn print(rt: &impl Print, words: &[u32; WORDS]) -> io::Result<()> {
+    print_some(rt, words, SHOWN, "")?;
+    print_answers(rt, words)
 }

@@ -1,9 +1,11 @@
 // The program "ways": reads a plan on standard input, and prints its lines. One byte more than 4,096 at the most is ever needed.
 #![tactic(auto)]
 
-fn main() {
+use std::io;
+
+fn main(rt: HostRuntime) -> io::Result<()> {
     let mut input = [0u8; 4097];
-    let length = io::read_full(libc::STDIN_FILENO, &mut input);
+    let length = print_out::read_full(&mut rt.stdin(), &mut input)?;
     let mut out = [0u8; 262144];
-    print_out::print_all(&input[..length], &mut out);
+    print_out::print_all(&mut rt.stdout(), &input[..length], &mut out)
 }

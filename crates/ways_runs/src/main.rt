@@ -1,29 +1,33 @@
 // Runs what "ways" does on every file of data/ that an argument names: its name, then its lines.
 #![tactic(auto)]
 
-use libc::STDOUT_FILENO;
+use std::env::FillError;
+use std::fs::OpenOptions;
+use std::rt::{Env, Files};
+use std::{io, str};
 
 // Prints the name of the file that an argument names, and the lines for it.
-fn run(i: usize) {
-    let mut path = io::buffer();
-    let length = os::arg(i, &mut path);
-    let file = os::open_read(&path[..length]);
-    if file < 0 {
-        os::fail(&path[..length]);
-        return;
-    }
-    io::write_all(STDOUT_FILENO, &path[..length]);
-    io::write_all(STDOUT_FILENO, b"\n");
+fn run(rt: &HostRuntime, path: &str) -> io::Result<()> {
+    let mut file = rt.open_file(OpenOptions::new().read(true), path)?;
+    println!(rt; "{path}")?;
     let mut input = [0u8; 4097];
-    let read = io::read_full(file, &mut input);
-    libc::close(file);
+    let read = print_out::read_full(&mut file, &mut input)?;
     let mut out = [0u8; 262144];
-    print_out::print_all(&input[..read], &mut out);
+    print_out::print_all(&mut rt.stdout(), &input[..read], &mut out)
 }
 
-fn main() {
-    let count = os::arg_count();
-    for i in 1..count {
-        run(i);
+fn main(rt: HostRuntime) -> io::Result<()> {
+    let mut buffer = [0u8; 4096];
+    for i in 1..usize::MAX {
+        let length = match rt.arg(i, &mut buffer) {
+            Ok(length) => length,
+            Err(FillError::NotPresent) => return Ok(()),
+            Err(FillError::TooLong) => return Err(io::Error::from(io::ErrorKind::InvalidInput)),
+        };
+        let Ok(path) = str::from_utf8(&buffer[..length]) else {
+            return Err(io::Error::from(io::ErrorKind::InvalidData));
+        };
+        run(&rt, path)?;
     }
+    Ok(())
 }
