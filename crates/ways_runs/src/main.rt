@@ -8,7 +8,10 @@ use std::{io, str};
 
 // Prints the name of the file that an argument names, and the lines for it.
 fn run(rt: &HostRuntime, path: &str) -> io::Result<()> {
-    let mut file = rt.open_file(OpenOptions::new().read(true), path)?;
+    let mut file = match rt.open_file(OpenOptions::new().read(true), path) {
+        Ok(file) => file,
+        Err(error) => return eprintln!(rt; "{path}: {error}"),
+    };
     println!(rt; "{path}")?;
     let mut input = [0u8; 4097];
     let read = print_out::read_full(&mut file, &mut input)?;
@@ -22,12 +25,15 @@ fn main(rt: HostRuntime) -> io::Result<()> {
         let length = match rt.arg(i, &mut buffer) {
             Ok(length) => length,
             Err(FillError::NotPresent) => return Ok(()),
-            Err(FillError::TooLong) => return Err(io::Error::from(io::ErrorKind::InvalidInput)),
+            Err(FillError::TooLong) => {
+                eprintln!(rt; "argument {i}: too long")?;
+                continue;
+            }
         };
-        let Ok(path) = str::from_utf8(&buffer[..length]) else {
-            return Err(io::Error::from(io::ErrorKind::InvalidData));
-        };
-        run(&rt, path)?;
+        match str::from_utf8(&buffer[..length]) {
+            Ok(path) => run(&rt, path)?,
+            Err(_) => eprintln!(rt; "argument {i}: not UTF-8")?,
+        }
     }
     Ok(())
 }
