@@ -9,7 +9,7 @@ fn main() {
     };
     let library = folder.join("libheadset.a");
     if !library.is_file() {
-        panic!("there is no {}: `rt staticlib headset` writes it", library.display());
+        panic!("there is no {}: `bash host/run library` writes it", library.display());
     }
     println!("cargo:rustc-link-search=native={}", folder.display());
     println!("cargo:rustc-link-lib=static=headset");

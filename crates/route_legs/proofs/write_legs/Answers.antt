@@ -19,7 +19,7 @@ loop-walker-preserved c =
     let turn = c.loop-walker in
     let leads = c.leg-leg.ensures in (
       writing_next _ _ _ _ _ turn.count _ _
-      (writing_more _ _ _ _ _ _ _ _ _ _ room turn.invariant.0 leads c.put_leg.ensures),
+          (writing_more _ _ _ _ _ _ _ _ _ _ room turn.invariant.0 leads c.put_leg.ensures),
       counting_more _ _ _ _ _ _ _ turn.invariant.1 leads,
     )
 
