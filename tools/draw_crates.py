@@ -16,9 +16,10 @@ def read_crates():
     """Each crate with the crates that it names."""
     crates = {}
     for line in (ROOT / "crates.txt").read_text().splitlines():
-        name, _, deps = line.partition("#")[0].partition(":")
-        if name.strip():
-            crates[name.strip()] = [dep for dep in deps.split() if dep not in KIT]
+        head, _, deps = line.partition("#")[0].partition(":")
+        if head.strip():
+            # words after the name say what is built of it, as `staticlib`
+            crates[head.split()[0]] = [dep for dep in deps.split() if dep not in KIT]
     return crates
 
 

@@ -14,12 +14,12 @@ ROOT = pathlib.Path(__file__).resolve().parent.parent
 ENTRIES = ["lengths", "floor", "rooms", "table", "route", "plan", "print_plan", "headset"]
 PARTS = [("the library", ENTRIES[:6]), ("what `ways` prints", ["print_plan"]), ("the C interface", ["headset"])]
 KIT = {"io", "libc", "os", "bytes", "std"}
-NAMED = re.compile(r"use Rattle·(\w+?)(?:·specs|·proofs)?\.((?:specs|proofs)\.[\w.·-]+?)\.\{([^}]*)\}")
+NAMED = re.compile(r"use Rattle\.(\w+)\.((?:specs|proofs)(?:\.\w+)+)\.\{([^}]*)\}")
 
 
 def order_of_crates():
     lines = (ROOT / "crates.txt").read_text().splitlines()
-    return [line.split(":")[0] for line in lines if ":" in line.partition("#")[0]]
+    return [line.split(":")[0].split()[0] for line in lines if ":" in line.partition("#")[0]]
 
 
 def file_of(crate, module):
@@ -72,14 +72,15 @@ def told(path):
 
 
 def table():
-    order, rows, seen, faults = order_of_crates(), [], set(), []
+    order, rows, seen, faults, number = order_of_crates(), [], set(), [], 0
     for title, crates in PARTS:
         files = set().union(*(led_to(promised_by(crate)) for crate in crates)) - seen
         seen |= files
         place = {path: (order.index(path.relative_to(ROOT / "crates").parts[0]), path.name) for path in files}
         for path in sorted(files, key=place.get):
             name = path.relative_to(ROOT / "crates").with_suffix("")
-            rows.append(f"| {len(rows) + 1} | `{name}` | {told(path)} | {counted(path)} |")
+            number += 1
+            rows.append(f"| {number} | `{name}` | {told(path)} | {counted(path)} |")
         rows.append(f"| | **{title}** | | **{sum(counted(path) for path in files)}** |")
     everything = sum(counted(path) for path in seen)
     rows.append(f"| | **in all** | | **{everything}** |")
