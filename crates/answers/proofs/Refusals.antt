@@ -61,7 +61,7 @@ refuse_at_refused n place false f e = absurd (not_passed (sym e))
 pub has_passed : {t : Tested} (r : Tested) → r ≡ t → r ≡ Passed → t ≡ Passed
 has_passed r e p = sym e ∙ p
 
--- What `search` is handed to close the needs of code that strings tests together. The search finds each test's answer
+-- What `search` is handed to close the goals of code that strings tests together. The search finds each test's answer
 -- by the test, so no proof says where in the code a test stands.
 
 -- this test passed, and the answer is that of the later ones

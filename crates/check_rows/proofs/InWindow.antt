@@ -1,10 +1,10 @@
 -- The window over a floor: the cell at a column of its middle row differs, by the numbers, exactly if it is not right.
 -- The argument: Each place of the window has the number of its column and row (`at_place`), so what a heading offers is
--- made of the numbers of the cell where it leads and of the two beside (`offer-at`). Out of an open cell this, or the
+-- made of the numbers of the cell where it leads and of the two beside (`offer_at`). Out of an open cell this, or the
 -- mark's number if that is less, is the key of what the heading offers in entries: with a permitted step the
--- neighbour's key and the step's; without one the wall is added (`heading-offer`, once over the heading). Keys order
--- entries, so heading after heading the least number is the key of the least entry (`least-best`), and in a goal cell
--- it is 0, the key of (0, 0) (`least-made`). An open cell's number is below the wall, and tells apart the mark,
+-- neighbour's key and the step's; without one the wall is added (`heading_offer`, once over the heading). Keys order
+-- entries, so heading after heading the least number is the key of the least entry (`least_best`), and in a goal cell
+-- it is 0, the key of (0, 0) (`least_made`). An open cell's number is below the wall, and tells apart the mark,
 -- malformed entries and each length. So the cell does not differ exactly if its number is that key, that is if its
 -- entry is well-formed and packs what its neighbours make it. A blocked cell's number is the wall or above, where the
 -- least never is. So it does not differ exactly if its number is the wall, that is if its entry is the mark, and its

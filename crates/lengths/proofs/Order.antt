@@ -1,5 +1,5 @@
 -- The order of lengths: total, transitive, equal only if the same pair (the root of two is no fraction), kept and cancelled by adding,
--- and a step is longer. The idea: p + q√2 against 0 is p² against 2q², and such comparisons add (`under-add`, `above-add`) and cancel.
+-- and a step is longer. The idea: p + q√2 against 0 is p² against 2q², and such comparisons add (`under_add`, `above_add`) and cancel.
 use mathlib.Core.Path.{◌≡◌, ap, sym, subst, subst₂}
 use mathlib.Core.Logic.{◌⊎◌, inl, inr, ◌≢◌}
 use Prim.Native.Nat.{ℕ, zero, suc, ◌+◌, ◌-◌, ◌*◌, ◌≤◌, ◌<◌, ◌/◌, ◌%◌}

@@ -1,9 +1,9 @@
 -- What the first line says of an input, step by step, and the lines of the queries behind it. The argument: an input
--- that is too long is refused by its own test (`long-head`); else the reader's refusal is that of the break
--- (`read-refused`), or the plan is sound (`read-sound`). The tests of a sound plan are over the map's bytes where they
--- lie in the input, which are the contents' map (`map_is`), so what they answer is the first line (`plan-head`). Where
+-- that is too long is refused by its own test (`long_head`); else the reader's refusal is that of the break
+-- (`read_refused`), or the plan is sound (`read_sound`). The tests of a sound plan are over the map's bytes where they
+-- lie in the input, which are the contents' map (`map_is`), so what they answer is the first line (`head_of_plan`). Where
 -- the first line is a floor's, no test refused (`head_opened`), so the cell size is inside its limits and the floor is
--- sound; then query i's record lies 12 × (i - 1) bytes behind the first one's (`query-in`), and its line is the line
+-- sound; then query i's record lies 12 × (i - 1) bytes behind the first one's (`query_in`), and its line is the line
 -- with its number (`numbered`).
 use mathlib.Core.Path.{◌≡◌, refl, ap, subst, sym, ◌∙◌}
 use mathlib.Core.Bool.{false}

@@ -1,6 +1,6 @@
 -- REFERENCE, "Routes and legs": the route is a shortest way, and of all shortest ways the first in dictionary order of
--- headings. That always taking the first heading that still lies on a shortest way gives it is `follows-first` and
--- `first-follows` of proofs/First.
+-- headings. That always taking the first heading that still lies on a shortest way gives it is `follows_first` and
+-- `first_follows` of proofs/First.
 use Rattle.std.specs.Prelude.{ℕ, ◌<◌, List, [], ◌∷◌}
 use Rattle.lengths.specs.declared.Length.{Length}
 use Rattle.lengths.specs.Order.{zero_length, ◌⊕◌}

@@ -1,6 +1,6 @@
 -- The one table of headings: it is the signed one of REFERENCE with one added to each change. What holds of the changes of all eight
--- headings is computed over the whole table once: how large they are (`changes-of`), that the opposite heading undoes
--- them, and that a diagonal heading has those of the two straight ones beside it (`corner-of`).
+-- headings is computed over the whole table once: how large they are (`changes_of`), that the opposite heading undoes
+-- them, and that a diagonal heading has those of the two straight ones beside it (`corner_of`).
 use mathlib.Core.Path.{◌≡◌, refl, sym, subst}
 use mathlib.Core.Logic.{◌≢◌, ◌⊎◌, inl, inr}
 use mathlib.Core.Bool.{Bool, true, false}

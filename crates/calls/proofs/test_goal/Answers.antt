@@ -1,5 +1,5 @@
--- `calls::test_goal` meets its contract. A line is a test: what it asks, its two answers, and the way out where it
--- refuses; the last is that all pass.
+-- `calls::test_goal` meets its contract. What each test asks, each return where one refuses, and
+-- that all pass.
 use Rattle.answers.proofs.Refusals.{refusing, passing}
 use Rattle.floor.proofs.Tested.{floored}
 use Rattle.calls.specs.Calls.{goal_tests}

@@ -1,3 +1,5 @@
+-- `lengths::nearest` meets its contract. The invariant: the nearest number lies from low to high, said by the squares of
+-- the odd numbers beside them, so that at the end it is low.
 use Prim.Native.Nat.{◌≤◌, ◌-◌, ◌*◌}
 use native.Mathlib.Nat.{mul-le-mul, mul-pos}
 use native.Mathlib.Omega.{arith}

@@ -1,3 +1,5 @@
+-- `lengths::nearest` meets its contract. The invariant: the nearest number lies from low to high, said by the squares of
+-- the odd numbers beside them, so that at the end it is low.
 use mathlib.Core.Path.{◌≡◌}
 use Prim.Native.Nat.{◌≤◌, ◌<◌, ◌-◌, ◌+◌, ◌*◌}
 use Rattle.lengths.proofs.nearest.Given as goal

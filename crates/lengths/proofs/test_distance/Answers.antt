@@ -1,5 +1,5 @@
--- `lengths::test_distance` meets its contract. A line is a test: what it asks, its two answers, and the way out where
--- it refuses; the last is that all pass.
+-- `lengths::test_distance` meets its contract. What each test asks, each return where one refuses, and
+-- that all pass.
 use Rattle.answers.proofs.Refusals.{refusing, passing}
 use Rattle.lengths.proofs.test_distance.Goals as goal
 

@@ -1,5 +1,5 @@
--- `lengths::test_lengths` meets its contract. A line is a test: what it asks, its two answers, and the way out where
--- it refuses; the last is that all pass.
+-- `lengths::test_lengths` meets its contract. What each test asks, each return where one refuses, and
+-- that all pass.
 use Rattle.answers.proofs.Refusals.{refusing, passing}
 use Rattle.lengths.proofs.test_lengths.Goals as goal
 

@@ -1,5 +1,5 @@
 -- `floor::cells::blocked_at` meets its contract: the cell's byte lies in the map (`in_map`), and its bit is the one
--- that is read (`cell-bit`).
+-- that is read (`cell_bit`).
 use Rattle.floor.specs.Floor.{map_of}
 use Rattle.floor.proofs.Reading.{cell_bit}
 use Rattle.floor.proofs.cells.blocked_at.Goals as goal

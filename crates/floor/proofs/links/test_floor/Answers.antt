@@ -1,5 +1,5 @@
--- `floor::links::test_floor` meets its contract. A line is a test: what it asks, its two answers, and the way out
--- where it refuses; the last is that all pass.
+-- `floor::links::test_floor` meets its contract. What each test asks, each return where one refuses, and
+-- that all pass.
 use Rattle.answers.proofs.Refusals.{refusing, passing, passes_here}
 use Rattle.floor.specs.Tests.{floor_tested}
 use Rattle.floor.proofs.Tested.{sides_asked, length_asked}

@@ -1,5 +1,5 @@
 -- `floor::padding::past_width` meets its contract. The loop's invariant: no row so far has a bit set past the width.
--- A row has one exactly if its last byte, from the width's place on, is not clear (`row-clear`, `row-past`).
+-- A row has one exactly if its last byte, from the width's place on, is not clear (`row_clear`, `row_past`).
 use mathlib.Core.Path.{sym, ◌∙◌}
 use native.Mathlib.Omega.{arith}
 use borrow.Author.Count.{below_more}

@@ -1,5 +1,5 @@
--- `print_plan::heads::test_plan` meets its contract. A line is a test: what it asks, its two answers, and the way out
--- where it refuses; the last is that all pass.
+-- `print_plan::heads::test_plan` meets its contract. What each test asks, each return where one refuses, and
+-- that all pass.
 use Rattle.answers.proofs.Refusals.{refusing, passing}
 use Rattle.floor.proofs.Tested.{largest_low}
 use Rattle.print_plan.proofs.heads.test_plan.Goals as goal
