@@ -1,8 +1,7 @@
 /*
  * ways.h: shortest ways on a warehouse floor, for a headset's firmware in C or C++ (C99, C++17) on x86-64.
  *
- * Link with libheadset.a, which `bash host/run library` puts into target/staticlib/ and `./install PREFIX` installs. It
- * is built for x86-64-v2, processors with SSE4.2.
+ * Link with libheadset.a, which `bash host/run library` puts into target/staticlib/ and `./install PREFIX` installs.
  * Every function of the library is proved to meet its promise for every input; the promises in full are stated in
  * crates/headset/src/lib.rt and explained in docs/STATEMENTS.md, the rules in docs/REFERENCE.md. No function
  * allocates, keeps anything between calls, or calls anything outside the library but memset and memmove, so calls from
@@ -94,7 +93,7 @@ enum ways_heading {
 
 /* The stack, in bytes, that a call takes at most; host/tests/stack.c measures it. */
 #define WAYS_FILL_STACK 73728       /* filling, finding a route; measured: 68,360 */
-#define WAYS_CHECK_STACK 4096       /* checking, a route from a table; measured: 1,976 */
+#define WAYS_CHECK_STACK 4096       /* checking, a route from a table; measured: 2,008 */
 #define WAYS_LITTLE_STACK 1024      /* every other call; measured: 88 */
 
 /* A table's entry is straight * 65536 + diagonal, the shortest length from its cell to the goal, or the mark:
