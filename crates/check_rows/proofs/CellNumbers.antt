@@ -24,7 +24,7 @@ use Rattle.answers.proofs.Bools.{both_true}
 use Rattle.steps.proofs.OnMap.{few_cells}
 use Rattle.table_theory.specs.Entry.{Entry, mark, long, parts_of, malformed, read}
 use Rattle.table_theory.specs.inner.Best.{lesser}
-use Rattle.table_theory.proofs.Lists.{get_d_any}
+use Rattle.table_theory.proofs.Lists.{get_or_any}
 use Rattle.check_rows.specs.inner.Level.{none, wall, key_of, not_mark, open_number, number_of, on_floor, number_at}
 
 -- what an entry is, and its number in an open cell
@@ -128,7 +128,7 @@ in_table m entries c r f p q = (
 pub number_read : (m : Map) (t : List ℕ) (c r n : ℕ) (b : Bool) → Fitting m (length t) → c < m.width → r < m.height → b ≡ blocked m c r
     → n ≡ number_of b (get_or t (cell_of m c r) 0) → n ≡ number_at m t (c + 1) (r + 1)
 number_read m t c r n b fits p q e f =
-    f ∙ ap₂ number_of e (get_d_any t (cell_of m c r) 0 4294967295 (in_table m (length t) c r fits p q).0) ∙ sym (number_on m t c r p q)
+    f ∙ ap₂ number_of e (get_or_any t (cell_of m c r) 0 4294967295 (in_table m (length t) c r fits p q).0) ∙ sym (number_on m t c r p q)
 
 -- a cell on the floor is open where it is not blocked
 pub open_on : (m : Map) (c r : ℕ) → c < m.width → r < m.height → open_past m (c + 1) (r + 1) ≡ not (blocked m c r)

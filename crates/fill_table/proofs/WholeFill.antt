@@ -19,7 +19,7 @@ use Rattle.steps.specs.Step.{steps_of}
 use Rattle.steps.specs.Way.{Only}
 use Rattle.steps.proofs.Leads.{open_column, open_row, floor, Past, past}
 use Rattle.table_theory.specs.Filled.{Filled}
-use Rattle.table_theory.proofs.Lists.{get_d_any, each}
+use Rattle.table_theory.proofs.Lists.{get_or_any, each}
 use Rattle.fill_steps.specs.inner.Work.{unreached, stride, largest, goal_number, at, spot, OffBorder}
 use Rattle.fill_bands.specs.inner.Solved.{Loaded, Goals, Solved}
 use Rattle.fill_load.specs.inner.Load.{number_of, loaded, Prefix}
@@ -169,7 +169,7 @@ module _ (m : Map) (goal entries : ℕ) (a : Ready m goal entries) (x : List ℕ
         what = entry_of (at x'' (spot (y % m.width) (y / m.width)));
         says = says (floor m) a.fitting.sound.some_wide x' x'' mapped (Only goal) goal_numbers s y;
         same =
-            get_d_any t y 4294967295 0 (omega (arith, w.size, same, a.fitting.size)) ∙ ap (λ (n : ℕ). get_or t n 0) (sym (zero-add y)) ∙ w.inside y k;
+            get_or_any t y 4294967295 0 (omega (arith, w.size, same, a.fitting.size)) ∙ ap (λ (n : ℕ). get_or t n 0) (sym (zero-add y)) ∙ w.inside y k;
       };
     }
 

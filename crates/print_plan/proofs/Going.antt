@@ -22,16 +22,16 @@ joined_snoc [] l = append-nil l
 joined_snoc (k ∷ ls) l = ap (λ (x : List ℕ). k ++ x) (joined_snoc ls l) ∙ sym (append_assoc k (joined ls) l)
 
 -- the first of some and one more, and that one
-get_d_front : (ls : List (List ℕ)) (l : List ℕ) (i : ℕ) → i < length ls → get_or (ls ++ (l ∷ [])) i [] ≡ get_or ls i []
-get_d_front [] l i h = absurd (omega arith)
-get_d_front (k ∷ ls) l zero h = refl
-get_d_front (k ∷ ls) l (suc i) h = get_d_front ls l i (omega arith)
+get_or_front : (ls : List (List ℕ)) (l : List ℕ) (i : ℕ) → i < length ls → get_or (ls ++ (l ∷ [])) i [] ≡ get_or ls i []
+get_or_front [] l i h = absurd (omega arith)
+get_or_front (k ∷ ls) l zero h = refl
+get_or_front (k ∷ ls) l (suc i) h = get_or_front ls l i (omega arith)
 
-get_d_last : (ls : List (List ℕ)) (l : List ℕ) (i : ℕ) → i ≡ length ls → get_or (ls ++ (l ∷ [])) i [] ≡ l
-get_d_last [] l zero h = refl
-get_d_last [] l (suc i) h = absurd (omega arith)
-get_d_last (k ∷ ls) l zero h = absurd (omega arith)
-get_d_last (k ∷ ls) l (suc i) h = get_d_last ls l i (omega arith)
+get_or_last : (ls : List (List ℕ)) (l : List ℕ) (i : ℕ) → i ≡ length ls → get_or (ls ++ (l ∷ [])) i [] ≡ l
+get_or_last [] l zero h = refl
+get_or_last [] l (suc i) h = absurd (omega arith)
+get_or_last (k ∷ ls) l zero h = absurd (omega arith)
+get_or_last (k ∷ ls) l (suc i) h = get_or_last ls l i (omega arith)
 
 module _ (input : List ℕ) (from : ℕ) (old : List ℕ) where
   pub going_start : Progress input from old old 0 from
@@ -56,11 +56,11 @@ module _ (input : List ℕ) (from : ℕ) (old : List ℕ) where
     are_more : (i : ℕ) → i < length lines → LineAt input (from + i) (get_or lines i [])
     are_more i h =
         elim (dec_le (suc i) (length p.shown)) [
-          | yes front ↦ subst (LineAt input (from + i)) (sym (get_d_front p.shown w.bytes i front)) (p.are i front)
+          | yes front ↦ subst (LineAt input (from + i)) (sym (get_or_front p.shown w.bytes i front)) (p.are i front)
           | no back ↦
               let last : i ≡ length p.shown = omega (arith, all) in
               let here : next ≡ from + i = omega (arith, p.upto) in
-              subst (LineAt input (from + i)) (sym (get_d_last p.shown w.bytes i last)) (subst (λ (k : ℕ). LineAt input k w.bytes) here w.is)
+              subst (LineAt input (from + i)) (sym (get_or_last p.shown w.bytes i last)) (subst (λ (k : ℕ). LineAt input k w.bytes) here w.is)
         ]
 
     room_more : (i : ℕ) → i < length lines → length (joined (take i lines)) + line_room ≤ length old

@@ -22,7 +22,7 @@ use Rattle.route_walker.specs.Route.{FirstRoute}
 use Rattle.route_walker.specs.Legs.{Leg}
 use Rattle.steps.specs.inner.Ranking.{Ranking}
 use Rattle.route_walker.specs.inner.Walkers.{Run, Starts}
-use Rattle.table_theory.proofs.Lists.{get_d_any}
+use Rattle.table_theory.proofs.Lists.{get_or_any}
 use Rattle.route_walker.proofs.OnFloor.{first_run, no_way}
 use Rattle.route_legs.specs.declared.Way.{Way}
 use Rattle.route_legs.specs.declared.RouteReading.TheVariants as reading
@@ -55,7 +55,7 @@ module _ (m : Map) (c : SoundFloor m) (goal : ℕ) (on : goal < cells m) (t : Li
     few_ahead : (ls : List Leg) (l : Length) → Ahead m t o w ls l → length ls ≤ get_or t start 0 / 65536 + get_or t start 0 % 65536
     few_ahead ls l a =
         let r = ahead_route w s n ls l a in
-        let e : get_or t start 0 ≡ pack (long l) = get_d_any t start 0 4294967295 (omega (arith, f.size)) ∙ route_entry (steps_of m) r f b in
+        let e : get_or t start 0 ≡ pack (long l) = get_or_any t start 0 4294967295 (omega (arith, f.size)) ∙ route_entry (steps_of m) r f b in
         let few = small_shortest m c (Only goal) (λ x p. omega (arith, p)) start l r.first.route.short in
         let k = few_legs (steps_of m) ls r.legs_are.proper in
         let q = ap steps (route_steps (steps_of m) r) in

@@ -49,10 +49,10 @@ legs_more h n hs ls p o l = record {
   proper = (p, (other_first h ls l.proper (subst (Other h) (sym l.joined) o), l.proper));
 }
 
-first_refusal : (h k n m : ℕ) (r s : List ℕ) → 0 < n → 0 < m → again n h r ≡ again m k s → h ≡ k
-first_refusal h k zero m r s p q e = absurd (omega arith)
-first_refusal h k (suc n) zero r s p q e = absurd (omega arith)
-first_refusal h k (suc n) (suc m) r s p q e = cc
+same_first : (h k n m : ℕ) (r s : List ℕ) → 0 < n → 0 < m → again n h r ≡ again m k s → h ≡ k
+same_first h k zero m r s p q e = absurd (omega arith)
+same_first h k (suc n) zero r s p q e = absurd (omega arith)
+same_first h k (suc n) (suc m) r s p q e = cc
 
 not_nil : (h n : ℕ) (r : List ℕ) → 0 < n → again n h r ≡ [] → ⊥
 not_nil h zero r p e = omega arith
@@ -64,7 +64,7 @@ joined_once [] [] p q e = refl
 joined_once [] (b ∷ ks) p q e = absurd (not_nil b.heading b.count (join ks) q.0 (sym e))
 joined_once (a ∷ ls) [] p q e = absurd (not_nil a.heading a.count (join ls) p.0 e)
 joined_once (a ∷ ls) (b ∷ ks) p q e =
-    let f : a.heading ≡ b.heading = first_refusal a.heading b.heading a.count b.count (join ls) (join ks) p.0 q.0 e in
+    let f : a.heading ≡ b.heading = same_first a.heading b.heading a.count b.count (join ls) (join ks) p.0 q.0 e in
     let (n, r) =
     again_inj a.heading a.count b.count (join ls) (join ks)
     (first_other a.heading ls p.1.1 p.1.0)

@@ -15,7 +15,7 @@ use Rattle.steps.specs.Way.{Graph, Way, stay, step, Shortest}
 use Rattle.steps.proofs.Ways.{tail_shortest}
 use Rattle.table_theory.specs.Entry.{long, pack, parts_of, malformed, read, entry_at}
 use Rattle.table_theory.specs.Filled.{Says}
-use Rattle.table_theory.proofs.Lists.{get_d_any}
+use Rattle.table_theory.proofs.Lists.{get_or_any}
 use Rattle.table_theory.proofs.Packing.{read_small, said_small, formed, pack_read}
 use Rattle.route_walker.specs.inner.Walkers.{Run, done, more, cost, fits}
 use Rattle.route_walker.proofs.Greedy.{OnShort, Follows, arrived, take, on_entries, entries_on}
@@ -41,7 +41,7 @@ module _ (G : Graph) (Goal : ℕ → Type 0) (n : ℕ) (lead : ℕ → ℕ → L
     (size : length t ≡ n)
     (right : (x : ℕ) → Says G Goal x (entry_at t x)) (sound : (x : ℕ) → x < n → malformed (get_or t x 4294967295) ≡ false) where
   number : (x : ℕ) → x < n → get_or t x 0 ≡ get_or t x 4294967295
-  number x b = get_d_any t x 0 4294967295 (omega arith)
+  number x b = get_or_any t x 0 4294967295 (omega arith)
 
   -- an entry that is a length is a number with small parts
   entry_number : (x : ℕ) (a : Length) → x < n → entry_at t x ≡ long a → (get_or t x 0 ≡ pack (long a)) × Within (parts_of (get_or t x 0))

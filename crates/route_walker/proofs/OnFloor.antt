@@ -15,7 +15,7 @@ use Rattle.steps.proofs.OnMap.{few_cells}
 use Rattle.steps.proofs.Leads.{floor, to_step, from_step}
 use Rattle.table_theory.specs.Entry.{Entry, mark, long, pack, parts_of, malformed, read, entry_at}
 use Rattle.table_theory.specs.Filled.{Says, Filled}
-use Rattle.table_theory.proofs.Lists.{get_d_any}
+use Rattle.table_theory.proofs.Lists.{get_or_any}
 use Rattle.table_theory.proofs.Packing.{read_mark, formed, pack_read}
 use Rattle.table_theory.proofs.Judging.{filled_says, filled_right}
 use Rattle.route_walker.specs.Route as walk
@@ -73,7 +73,7 @@ module _ (m : Map) (c : SoundFloor m) (goal : ℕ) (on : goal < cells m) (t : Li
 
   -- a cell's number, as the code reads it, is its entry packed
   number_is : (x : ℕ) → x < cells m → get_or t x 0 ≡ pack (entry_at t x)
-  number_is x b = get_d_any t x 0 4294967295 (omega (arith, f.size)) ∙ sym (pack_read (get_or t x 4294967295) (well x b))
+  number_is x b = get_or_any t x 0 4294967295 (omega (arith, f.size)) ∙ sym (pack_read (get_or t x 4294967295) (well x b))
 
   has_length : (x : ℕ) → x < cells m → get_or t x 0 ≢ 4294967295 → (a : Length) × (entry_at t x ≡ long a)
   has_length x b n = by (entry_at t x) refl
@@ -87,7 +87,7 @@ module _ (m : Map) (c : SoundFloor m) (goal : ℕ) (on : goal < cells m) (t : Li
   small_number x b n = by (formed (get_or t x 4294967295) (well x b))
     where
       e : get_or t x 0 ≡ get_or t x 4294967295
-      e = get_d_any t x 0 4294967295 (omega (arith, f.size))
+      e = get_or_any t x 0 4294967295 (omega (arith, f.size))
 
       by : (get_or t x 4294967295 ≡ 4294967295) ⊎ Within (parts_of (get_or t x 4294967295)) → get_or t x 0 < 1073741824
       by (inl p) = absurd (n (e ∙ p))
@@ -124,7 +124,7 @@ module _ (m : Map) (c : SoundFloor m) (goal : ℕ) (on : goal < cells m) (t : Li
 
   -- the mark says that there is no way
   pub no_way : (x : ℕ) → x < cells m → get_or t x 0 ≡ 4294967295 → (a : Length) → ¬ Reach (steps_of m) (Only goal) x a
-  no_way x b e = subst (Says (steps_of m) (Only goal) x) (ap read (get_d_any t x 4294967295 0 (omega (arith, f.size)) ∙ e) ∙ read_mark) (right x)
+  no_way x b e = subst (Says (steps_of m) (Only goal) x) (ap read (get_or_any t x 4294967295 0 (omega (arith, f.size)) ∙ e) ∙ read_mark) (right x)
 
   -- else the reader's run is the first route
   pub first_run : (o : Ranking) {x : ℕ} {hs : List ℕ} {a : Length} → x < cells m → get_or t x 0 ≢ 4294967295 → Run (lead_of m) t o.at x hs a

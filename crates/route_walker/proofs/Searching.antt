@@ -24,8 +24,8 @@ cost_pos h = omega (arith, one_step (h % 2))
 
 -- a search, heading by heading
 module _ (test : ℕ → Bool) (at : ℕ → ℕ) (i n : ℕ) (inv : seek test at (8 - i) i ≡ n) where
-  first_refusal : i < 8 → seek test at (8 - i) i ≡ pick (test (at i)) (at i) (seek test at (8 - (i + 1)) (i + 1))
-  first_refusal h =
+  seek_first : i < 8 → seek test at (8 - i) i ≡ pick (test (at i)) (at i) (seek test at (8 - (i + 1)) (i + 1))
+  seek_first h =
       let e : 8 - i ≡ suc (8 - (i + 1)) = omega arith in
       rw (e, add-one i)
 
@@ -34,10 +34,10 @@ module _ (test : ℕ → Bool) (at : ℕ → ℕ) (i n : ℕ) (inv : seek test a
 
   module _ (h : i < 8) (r : Bool) (f : r ≡ test (at i)) where
     pub seek_found : r ≡ true → at i ≡ n
-    seek_found g = let e : test (at i) ≡ true = sym f ∙ g in sym (first_refusal h ∙ rw e) ∙ inv
+    seek_found g = let e : test (at i) ≡ true = sym f ∙ g in sym (seek_first h ∙ rw e) ∙ inv
 
     pub seek_goes : r ≡ false → seek test at (8 - (i + 1)) (i + 1) ≡ n
-    seek_goes g = let e : test (at i) ≡ false = sym f ∙ g in sym (first_refusal h ∙ rw e) ∙ inv
+    seek_goes g = let e : test (at i) ≡ false = sym f ∙ g in sym (seek_first h ∙ rw e) ∙ inv
 
 -- two headings at once, the first of them even
 module _ (test : ℕ → Bool) (at : ℕ → ℕ) (i n : ℕ) (inv : seek test at (8 - i) i ≡ n) (even : i % 2 ≡ 0) (h : i < 8)

@@ -9,10 +9,10 @@ use lib.ListN.{get_or, length, set}
 use lib.Seq.{get_or-set_same, get_or-set_other}
 
 -- what is read inside a list does not depend on what stands for the rest
-pub get_d_any : {A : Type 0} (l : List A) (i : ℕ) (a b : A) → i < length l → get_or l i a ≡ get_or l i b
-get_d_any [] i a b h = absurd (omega arith)
-get_d_any (x ∷ l) zero a b h = refl
-get_d_any (x ∷ l) (suc i) a b h = get_d_any l i a b (omega arith)
+pub get_or_any : {A : Type 0} (l : List A) (i : ℕ) (a b : A) → i < length l → get_or l i a ≡ get_or l i b
+get_or_any [] i a b h = absurd (omega arith)
+get_or_any (x ∷ l) zero a b h = refl
+get_or_any (x ∷ l) (suc i) a b h = get_or_any l i a b (omega arith)
 
 -- a fact of every place, if it holds of the changed one and of the others as they were
 pub each :
