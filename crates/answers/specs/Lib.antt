@@ -1,3 +1,3 @@
 pub mod Bools
+pub mod Numbers
 pub mod Refusing
-pub mod inner

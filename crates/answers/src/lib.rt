@@ -1,50 +1,73 @@
-// What the calls share: a refusal, and what a test answers.
+// What the calls share: why one is refused, and the test that refuses.
 #![tactic(auto)]
 
 ghost use Rattle.std.specs.Prelude.{◌≡◌};
-ghost use Rattle.answers.specs.Refusing.{refuse, refuse_at};
-ghost use Rattle.answers.specs.inner.Handing.{refusal_of};
+ghost use Rattle.answers.specs.Numbers.{number_of, place_of};
+ghost use Rattle.answers.specs.Refusing.{refuse};
 
-// A refusal: its number, and the place, count or length that comes with it, else 0.
-#[derive(Clone, Copy)]
-pub struct Refusal {
-    pub number: u8,
-    pub place: usize,
+// Why a call is refused. Three refusals come with a place: how many legs the way has, the first cell that differs, and
+// the offset at which a plan breaks.
+#[derive(Clone, Copy, PartialEq, Eq)]
+pub enum Refusal {
+    SidesOutside,
+    MapLength,
+    BitPastWidth,
+    TableLength,
+    StartOffFloor,
+    GoalOffFloor,
+    StartBlocked,
+    GoalBlocked,
+    NoWay,
+    LegsShort(usize),
+    TableWrong(usize),
+    LengthAbove,
+    SizeOutside,
+    PlanBroken(usize),
 }
 
-// What a test answers, or several in their order: that it is passed, or the refusal that ends the call.
-#[derive(Clone, Copy)]
-pub enum Tested {
-    Passed,
-    Refused(Refusal),
+impl Refusal {
+    // The number given back for it.
+    pub fn number(self) -> usize
+        ensures { result ≡ number_of self }
+    {
+        match self {
+            Refusal::SidesOutside => 1,
+            Refusal::MapLength => 2,
+            Refusal::BitPastWidth => 3,
+            Refusal::TableLength => 4,
+            Refusal::StartOffFloor => 5,
+            Refusal::GoalOffFloor => 6,
+            Refusal::StartBlocked => 7,
+            Refusal::GoalBlocked => 8,
+            Refusal::NoWay => 9,
+            Refusal::LegsShort(_) => 10,
+            Refusal::TableWrong(_) => 11,
+            Refusal::LengthAbove => 12,
+            Refusal::SizeOutside => 13,
+            Refusal::PlanBroken(_) => 14,
+        }
+    }
+
+    // The place, count or length that comes with it, else 0.
+    pub fn place(self) -> usize
+        ensures { result ≡ place_of self }
+    {
+        match self {
+            Refusal::LegsShort(place) | Refusal::TableWrong(place) | Refusal::PlanBroken(place) => {
+                place
+            }
+            _ => 0,
+        }
+    }
 }
 
-// A test: it refuses with this number, and this place, count or length, where the condition holds.
-pub fn refuse_at(number: u8, place: usize, holds: bool) -> Tested
-    ensures { result ≡ refuse_at number place holds }
+// A test: it refuses where the condition holds.
+#[tactic(auto, unfolding(crate::specs::Refusing::refuse))]
+pub fn refuse(refusal: Refusal, holds: bool) -> Result<(), Refusal>
+    ensures { result ≡ refuse refusal holds }
 {
     if holds {
-        return Tested::Refused(Refusal { number, place });
+        return Err(refusal);
     }
-    Tested::Passed
-}
-
-// One that comes with nothing but its number.
-pub fn refuse_if(number: u8, holds: bool) -> Tested
-    ensures { result ≡ refuse number holds }
-{
-    refuse_at(number, 0, holds)
-}
-
-// The refusal of what did not pass.
-pub fn refusal_of(tested: Tested) -> Refusal
-    ensures { result ≡ refusal_of tested }
-{
-    match tested {
-        Tested::Passed => Refusal {
-            number: 0,
-            place: 0,
-        },
-        Tested::Refused(refusal) => refusal,
-    }
+    Ok(())
 }
