@@ -1,19 +1,19 @@
 -- What the tests of a floor, a table and a place show where they pass.
 use mathlib.Core.Path.{◌≡◌, refl}
 use mathlib.Core.Bool.{true, false}
-use mathlib.Core.List.{List}
 use Prim.Native.Nat.{ℕ, ◌*◌}
 use native.Mathlib.Omega.{arith}
 use borrow.Author.Tests.{ltb-false, eqb-true, not-false}
 use lib.Dec.{ltb}
 use lib.ListN.{length}
-use Rattle.answers.specs.declared.Tested.{Tested}
-use Rattle.answers.specs.declared.Tested.TheVariants.{Passed}
+use Rattle.std.specs.Prelude.{Ok}
+use Rattle.answers.specs.declared.Refusal.{Refusal}
+use Rattle.answers.specs.declared.Refusal.TheVariants.{SidesOutside, MapLength, TableLength}
 use Rattle.answers.specs.Bools.{either}
 use Rattle.answers.specs.Refusing.{refuse}
 use Rattle.answers.proofs.Bools.{either_false}
-use Rattle.answers.proofs.Refusals.{all_passed, refuse_passed, has_passed}
-use Rattle.floor.specs.Floor.{Map, Spot, map_of, bytes_per_row, open?, cells, largest_side}
+use Rattle.answers.proofs.Refusals.{all_passed, refuse_passed}
+use Rattle.floor.specs.Floor.{Map, Spot, bytes_per_row, open?, cells, largest_side}
 use Rattle.floor.specs.Refusals.{sides_outside, wrong_length, wrong_table, closed}
 use Rattle.floor.specs.Tests.{floor_tests, floor_tested}
 use Rattle.floor.specs.inner.Ready.{Low, Sided, SoundFloor, Fitting, Standing}
@@ -34,14 +34,14 @@ sides_sided limit width height e =
 
 module _ (limit : ℕ) (low : Low limit) where
   -- sides within a lower limit
-  lower_sided : (width height : ℕ) → sides_outside limit width height ≡ false → Sided largest_side width height
+  pub lower_sided : (width height : ℕ) → sides_outside limit width height ≡ false → Sided largest_side width height
   unfolding Low
   lower_sided width height e =
       let s = sides_sided limit width height e in
       record { some_wide = s.some_wide; wide = omega arith; some_high = s.some_high; high = omega arith }
 
   -- 1 and 2 do not hold
-  length_sound : (m : Map) → sides_outside limit m.width m.height ≡ false → wrong_length m ≡ false → SoundFloor m
+  pub length_sound : (m : Map) → sides_outside limit m.width m.height ≡ false → wrong_length m ≡ false → SoundFloor m
   unfolding wrong_length
   length_sound m sides size =
       let s = lower_sided m.width m.height sides in
@@ -54,26 +54,24 @@ module _ (limit : ℕ) (low : Low limit) where
       }
 
   -- no test of the floor refused
-  pub sound : (m : Map) → floor_tested limit m ≡ Passed → SoundFloor m
+  pub sound : (m : Map) → floor_tested limit m ≡ Ok tt → SoundFloor m
   unfolding floor_tested
   sound m e =
       let all = all_passed (floor_tests limit m) e in
-      length_sound m (refuse_passed 1 _ (search)) (refuse_passed 2 _ (search))
+      length_sound m (refuse_passed SidesOutside _ (search)) (refuse_passed MapLength _ (search))
 
 -- 4 passed too: the table has an entry for each cell
-pub fits : (limit : ℕ) → Low limit → (m : Map) (entries : ℕ) → floor_tested limit m ≡ Passed → refuse 4 (wrong_table m.width m.height entries) ≡ Passed
+pub fits : (limit : ℕ) → Low limit → (m : Map) (entries : ℕ) → floor_tested limit m ≡ Ok tt → refuse TableLength (wrong_table m.width m.height entries) ≡ Ok tt
     → Fitting m entries
 unfolding wrong_table
-fits limit low m entries e f = record { sound = sound limit low m e; size = eqb-true entries (cells m) (not-false _ (refuse_passed 4 _ f)) }
+fits limit low m entries e f = record { sound = sound limit low m e; size = eqb-true entries (cells m) (not-false _ (refuse_passed TableLength _ f)) }
 
 -- 7 or 8 passed
-pub stands : (n : ℕ) (m : Map) (s : Spot) → refuse n (closed m s) ≡ Passed → Standing m s
-stands n m s e =
-    let o : open? m s.column s.row ≡ true = not-false _ (refuse_passed n _ e) in
+pub stands : (f : Refusal) (m : Map) (s : Spot) → refuse f (closed m s) ≡ Ok tt → Standing m s
+stands f m s e =
+    let o : open? m s.column s.row ≡ true = not-false _ (refuse_passed f _ e) in
     let (column, row) = open_on m s.column s.row o in
     record { column_on = column; row_on = row; free = rw o tt }
-
--- What `search` is handed to close what links ask: earlier tests of the floor passed.
 
 -- a limit that is written out is not above the largest side, by computing
 pub low : (limit : ℕ) → ltb largest_side limit ≡ false → Low limit
@@ -82,22 +80,3 @@ low limit e = ltb-false largest_side limit e
 
 pub largest_low : Low largest_side
 largest_low = low largest_side refl
-
-pub sides_asked : (limit width height : ℕ) (r : Tested) → r ≡ refuse 1 (sides_outside limit width height) → r ≡ Passed → Low limit
-    → Sided largest_side width height
-sides_asked limit width height r e p low = lower_sided limit low width height (refuse_passed 1 _ (has_passed r e p))
-
-pub length_asked : (limit : ℕ) (m : Map) (r q : Tested) → r ≡ refuse 1 (sides_outside limit m.width m.height) → r ≡ Passed
-    → q ≡ refuse 2 (wrong_length m) → q ≡ Passed → Low limit → SoundFloor m
-length_asked limit m r q e p f s low = length_sound limit low m (refuse_passed 1 _ (has_passed r e p)) (refuse_passed 2 _ (has_passed q f s))
-
-pub floor_asked : (limit : ℕ) (m : Map) (r : Tested) → r ≡ floor_tested limit m → r ≡ Passed → Low limit → SoundFloor m
-floor_asked limit m r e p low = sound limit low m (has_passed r e p)
-
-pub sided_asked : (limit width height : ℕ) (bytes : List ℕ) (r : Tested) → r ≡ floor_tested limit (map_of width height bytes) → r ≡ Passed → Low limit
-    → Sided largest_side width height
-sided_asked limit width height bytes r e p low =
-    let s = floor_asked limit (map_of width height bytes) r e p low in
-    record { some_wide = s.some_wide; wide = s.wide; some_high = s.some_high; high = s.high }
-
-pub ruleset floored = (low, floor_asked, sided_asked)

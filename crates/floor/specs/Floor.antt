@@ -1,6 +1,7 @@
 -- REFERENCE, "Floor": the map, its cells, and which of them are open.
 use Rattle.std.specs.Prelude.{Bool, not, List, ℕ, ◌+◌, ◌*◌, ◌/◌, ◌%◌, ◌^◌, T, ltb, eqb, get_or}
 use Rattle.answers.specs.Bools.{both}
+pub use Rattle.floor.specs.declared.Spot.{Spot}
 
 -- a floor has at most 128 columns and 128 rows
 abbrev pub largest_side : ℕ
@@ -42,10 +43,6 @@ abbrev pub cells : Map → ℕ
 cells m = m.height * m.width
 
 -- a column and a row
-pub record Spot : Type 0 where
-  pub column : ℕ
-  pub row : ℕ
-
 abbrev pub spot_of : ℕ → ℕ → Spot
 spot_of column row = record { column = column; row = row }
 

@@ -1,4 +1,5 @@
 pub mod Floor
+pub mod Lent
 pub mod Refusals
 pub mod Tests
 pub mod Answers

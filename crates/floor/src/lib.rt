@@ -1,39 +1,48 @@
 // The floor: accepting one, reading its cells, and the tests of floors and places.
 #![tactic(auto)]
 
-ghost use Rattle.floor.specs.Floor.{map_of};
+ghost use Rattle.floor.specs.Lent.{given};
 ghost use Rattle.floor.specs.Answers.{Accepts};
 
-use answers::{Refusal, Tested};
+use answers::Refusal;
 
-pub mod cells;
+mod accepted;
 pub mod links;
-mod padding;
+
+pub use accepted::Floor;
 
 // The most columns, and the most rows, of a floor.
 pub const LARGEST_SIDE: usize = 128;
 
-// A floor's width and height, 1 to 128 each.
+// A map as a call is lent it: a floor's width and height, and the bytes with a bit for each cell. Any are taken.
 #[derive(Clone, Copy)]
+pub struct Map<'a> {
+    pub width: usize,
+    pub height: usize,
+    pub bytes: &'a [u8],
+}
+
+// A column and a row.
+#[derive(Clone, Copy, PartialEq, Eq)]
+pub struct Spot {
+    pub column: usize,
+    pub row: usize,
+}
+
+// A floor's width and height, 1 to 128 each.
+#[derive(Clone, Copy, PartialEq, Eq)]
 pub struct Sides {
     pub width: usize,
     pub height: usize,
 }
 
-// What accepting a floor answers: its sides, or the refusal.
-#[derive(Clone, Copy)]
-pub enum Accepted {
-    Floor(Sides),
-    Refused(Refusal),
-}
-
 // Accepting a floor: 1, 2, 3, in this order.
-pub fn accept(width: usize, height: usize, map: &[u8]) -> Accepted
-    ensures { Accepts (map_of width height map.now) result }
+pub fn accept(map: &Map) -> Result<Sides, Refusal>
+    ensures { Accepts (given map.now) result }
 {
-    let tested = links::test_floor(LARGEST_SIDE, width, height, map);
-    let Tested::Passed = tested else {
-        return Accepted::Refused(answers::refusal_of(tested));
-    };
-    Accepted::Floor(Sides { width, height })
+    let floor = links::floor_within(LARGEST_SIDE, map)?;
+    Ok(Sides {
+        width: floor.width,
+        height: floor.height,
+    })
 }

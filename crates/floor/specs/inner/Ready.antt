@@ -21,13 +21,6 @@ pub record SoundFloor (m : Map) : Type 0 where
   pub high : m.height ≤ largest_side
   pub size : length m.bytes ≡ m.height * bytes_per_row m.width
 
--- a place on a floor whose sides passed their test
-pub record Within (width height column row : ℕ) : Type 0 where
-  pub wide : width ≤ largest_side
-  pub high : height ≤ largest_side
-  pub column_on : column < width
-  pub row_on : row < height
-
 -- an accepted floor, and a table with an entry for each cell
 pub record Fitting (m : Map) (entries : ℕ) : Type 0 where
   pub sound : SoundFloor m

@@ -1,7 +1,7 @@
--- `floor::padding::clear_from` meets its contract: what the mask leaves of the byte (`clear`).
+-- `clear_from` meets its contract: what the mask leaves of the byte (`clear`).
 use native.Mathlib.Omega.{arith}
 use Rattle.floor.proofs.Masks.{masks, clear}
-use Rattle.floor.proofs.padding.clear_from.Goals as goal
+use Rattle.floor.proofs.accepted.clear_from.Goals as goal
 
 pub returns : goal.returns
 unfolding masks
