@@ -1,75 +1,55 @@
-// The tests of calls that take a table: to a goal, and from a start to a goal.
+// What calls that take a table test: a call to a goal, and one from a start to a goal.
 #![tactic(auto)]
 
-ghost use Rattle.std.specs.Prelude.{◌≡◌};
-ghost use Rattle.answers.specs.Refusing.{first_refusal};
-ghost use Rattle.calls.specs.Calls.{to_goal_of, goal_tests, route_of, route_tests};
+ghost use Rattle.std.specs.Prelude.{◌≡◌, IfOk};
+ghost use Rattle.answers.specs.Refusing.{outcome, first_refusal};
+ghost use Rattle.floor.specs.Lent.{given};
+ghost use Rattle.calls.specs.Calls.{to_goal, goal_tests, route, route_tests};
+ghost use Rattle.calls.specs.inner.Tested.{Aimed, Placed};
 
-use answers::Tested;
-use floor::{LARGEST_SIDE, links};
+use answers::Refusal;
+use floor::{LARGEST_SIDE, Map, Spot, links};
 
-// The tests of filling and checking: 1, 2, 3, 4, 6, 8, in this order.
-pub fn test_goal(
-    width: usize,
-    height: usize,
-    map: &[u8],
-    goal_column: usize,
-    goal_row: usize,
-    entries: usize,
-) -> Tested
-    ensures { result ≡ first_refusal (goal_tests (to_goal_of width height map.now goal_column goal_row) entries) }
+mod ends;
+
+pub use ends::{Ends, Goal};
+
+// The goal of a call that fills or checks a table: 1, 2, 3, 4, 6, 8, in this order.
+#[tactic(auto, unfolding(crate::specs::Calls::goal_tests, answers::specs::Refusing::first_refusal))]
+pub fn goal_of<'a>(map: &Map<'a>, goal: Spot, entries: usize) -> Result<Goal<'a>, Refusal>
+    ensures tested { outcome result ≡ first_refusal (goal_tests (to_goal (given map.now) goal) entries) }
+    ensures aimed { IfOk result (Aimed (given map.now) goal entries) }
 {
-    let floor = links::test_floor(LARGEST_SIDE, width, height, map);
-    let Tested::Passed = floor else {
-        return floor;
-    };
-    let sized = links::test_table(width, height, entries);
-    let Tested::Passed = sized else {
-        return sized;
-    };
-    let goal_on = links::test_on(6, width, height, goal_column, goal_row);
-    let Tested::Passed = goal_on else {
-        return goal_on;
-    };
-    let goal_open = links::test_open(8, width, height, map, goal_column, goal_row);
-    let Tested::Passed = goal_open else {
-        return goal_open;
-    };
-    Tested::Passed
+    let floor = links::floor_within(LARGEST_SIDE, map)?;
+    floor.test_table(entries)?;
+    floor.test_on(Refusal::GoalOffFloor, goal)?;
+    floor.test_open(Refusal::GoalBlocked, goal)?;
+    Ok(Goal {
+        floor,
+        cell: floor.cell_of(goal),
+    })
 }
 
-// The tests of a call for a route: 1 to 8 as numbered.
-pub fn test_ends(
-    width: usize,
-    height: usize,
-    map: &[u8],
-    start_column: usize,
-    start_row: usize,
-    goal_column: usize,
-    goal_row: usize,
+// The ends of a call for a route: 1 to 8 as numbered.
+#[tactic(auto, unfolding(crate::specs::Calls::route_tests, answers::specs::Refusing::first_refusal))]
+pub fn ends_of<'a>(
+    map: &Map<'a>,
+    start: Spot,
+    goal: Spot,
     entries: usize,
-) -> Tested
-    ensures { result ≡ first_refusal (route_tests (route_of width height map.now start_column start_row goal_column goal_row) entries) }
+) -> Result<Ends<'a>, Refusal>
+    ensures tested { outcome result ≡ first_refusal (route_tests (route (given map.now) start goal) entries) }
+    ensures placed { IfOk result (Placed (given map.now) start goal entries) }
 {
-    let floor = links::test_floor(LARGEST_SIDE, width, height, map);
-    let Tested::Passed = floor else {
-        return floor;
+    let floor = links::floor_within(LARGEST_SIDE, map)?;
+    floor.test_table(entries)?;
+    floor.test_places(start, goal)?;
+    let goal = Goal {
+        floor,
+        cell: floor.cell_of(goal),
     };
-    let sized = links::test_table(width, height, entries);
-    let Tested::Passed = sized else {
-        return sized;
-    };
-    let placed = links::test_places(
-        width,
-        height,
-        map,
-        start_column,
-        start_row,
-        goal_column,
-        goal_row,
-    );
-    let Tested::Passed = placed else {
-        return placed;
-    };
-    Tested::Passed
+    Ok(Ends {
+        goal,
+        start: floor.cell_of(start),
+    })
 }

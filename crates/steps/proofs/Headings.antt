@@ -11,7 +11,7 @@ use native.Mathlib.Decide.{ℕ_discrete}
 use borrow.Author.Tests.{leb-true, eqb-true}
 use lib.Dec.{leb, eqb}
 use lib.IntN.{ℤ, pos, negsuc, ◌+ℤ◌}
-use Rattle.steps.specs.declared.Change.{Change}
+use Rattle.steps.specs.declared.heading.Change.{Change}
 use Rattle.answers.specs.Bools.{both, pick}
 use Rattle.steps.specs.Heading.{changes, change_of}
 use Rattle.floor.proofs.Entries.{every, entry}

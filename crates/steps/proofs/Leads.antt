@@ -6,7 +6,7 @@ use native.Mathlib.Omega.{arith}
 use native.Mathlib.Nat.{div-add-mod'}
 use lib.Dec.{T as Holds, ltb, ltb→lt, lt→ltb}
 use Rattle.answers.specs.Bools.{pick, both}
-use Rattle.steps.specs.declared.Lead.TheVariants.{To, Nowhere}
+use Rattle.std.specs.Prelude.{Some, None}
 use Rattle.floor.specs.Floor.{Map, open?}
 use Rattle.steps.specs.inner.Leading.{open_past, permitted, lead_of}
 use Rattle.steps.specs.Heading.{change_of}
@@ -94,7 +94,7 @@ module _ (m : Map) where
   abbrev at : (c r : ℕ) → ℕ
   at c r = r * m.width + c
 
-  leads : (t : Bool) (y₀ y : ℕ) → pick t (To y₀) Nowhere ≡ To y → Holds t × (y₀ ≡ y)
+  leads : (t : Bool) (y₀ y : ℕ) → pick t (Some y₀) None ≡ Some y → Holds t × (y₀ ≡ y)
   leads true y₀ y p = (tt, cc)
   leads false y₀ y p = absurd (let z : ◌≡◌ {A = ℕ} 0 1 = cc in omega arith)
 
@@ -126,17 +126,17 @@ module _ (m : Map) where
         other = subst (λ (v : ℕ). Holds (open? m (c + j - 1) v)) r₁ f.other.«open»;
       })
 
-  pub to_step : (h x y : ℕ) → h < 8 → lead_of m h x ≡ To y → (graph (floor m)).Step h x y
+  pub to_step : (h x y : ℕ) → h < 8 → lead_of m h x ≡ Some y → (graph (floor m)).Step h x y
   unfolding lead_of
   to_step h x y b p =
       let (go, e) = leads (permitted m (change_of h).column (change_of h).row (x % m.width) (x / m.width)) _ y p in
       stepped h (x % m.width) (x / m.width) y b (four _ _ _ _ go) e
 
-  taken : (t : Bool) (y₀ y : ℕ) → Holds t → y₀ ≡ y → pick t (To y₀) Nowhere ≡ To y
-  taken true y₀ y t e = ap To e
+  taken : (t : Bool) (y₀ y : ℕ) → Holds t → y₀ ≡ y → pick t (Some y₀) None ≡ Some y
+  taken true y₀ y t e = ap Some e
   taken false y₀ y t e = absurd t
 
-  pub from_step : (h x y : ℕ) → (graph (floor m)).Step h x y → lead_of m h x ≡ To y
+  pub from_step : (h x y : ℕ) → (graph (floor m)).Step h x y → lead_of m h x ≡ Some y
   unfolding lead_of permitted
   from_step h x y s =
       let c = x % m.width in

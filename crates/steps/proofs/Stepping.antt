@@ -6,8 +6,8 @@ use Prim.Native.Nat.{ℕ, ◌+◌, ◌-◌, ◌*◌, ◌/◌, ◌%◌, ◌≤◌
 use native.Mathlib.Nat.{div-lt_iff_lt-mul, mod-lt}
 use native.Mathlib.Omega.{arith}
 use lib.Dec.{T}
-use Rattle.steps.specs.declared.Change.{Change}
-use Rattle.steps.specs.declared.Lead.TheVariants as lead
+use Rattle.steps.specs.declared.heading.Change.{Change}
+use Rattle.std.specs.Prelude.{Some, None}
 use Rattle.floor.specs.Floor.{Map, cells}
 use Rattle.steps.specs.Heading.{change_of}
 use Rattle.floor.specs.inner.Ready.{SoundFloor}
@@ -34,11 +34,11 @@ step_end m across down column row e =
 
 -- where a heading leads, by the answer to whether its step is permitted
 module _ (m : Map) (h x : ℕ) (d : Change) (is : d ≡ change_of h) (t : Bool) (may : t ≡ permitted m d.column d.row (x % m.width) (x / m.width)) where
-  pub leads_nowhere : t ≡ false → lead.Nowhere ≡ lead_of m h x
+  pub leads_nowhere : t ≡ false → None ≡ lead_of m h x
   unfolding lead_of
   leads_nowhere e = rw (← is, ← may, e)
 
-  pub leads_to : t ≡ true → lead.To ((x / m.width + d.row - 1) * m.width + (x % m.width + d.column - 1)) ≡ lead_of m h x
+  pub leads_to : t ≡ true → Some ((x / m.width + d.row - 1) * m.width + (x % m.width + d.column - 1)) ≡ lead_of m h x
   unfolding lead_of
   leads_to e = rw (← is, ← may, e)
 

@@ -1,7 +1,7 @@
 -- REFERENCE, "Headings and steps": the table of headings.
 use Rattle.std.specs.Prelude.{List, [], ◌∷◌, ℕ, zero, suc, ◌%◌, get_or}
 use Rattle.lengths.specs.declared.Length.{Length}
-use Rattle.steps.specs.declared.Change.{Change}
+use Rattle.steps.specs.declared.heading.Change.{Change}
 
 -- the code's table: each change plus one, so that −1, 0, +1 are 0, 1, 2. That it is the signed table is `table_is` of
 -- proofs/Headings

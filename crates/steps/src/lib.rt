@@ -1,97 +1,51 @@
 // The eight headings, and the permitted steps.
 #![tactic(auto)]
 
-ghost use Rattle.std.specs.Prelude.{◌≡◌, ◌+◌, ◌*◌, ◌≤◌, ◌<◌};
-ghost use Rattle.floor.specs.Floor.{map_of};
-ghost use Rattle.steps.specs.Heading.{change_of};
-ghost use Rattle.floor.specs.inner.Ready.{SoundFloor};
+ghost use Rattle.std.specs.Prelude.{◌≡◌, ◌≤◌, ◌<◌};
+ghost use Rattle.floor.specs.Floor.{cells};
+ghost use Rattle.floor.specs.Lent.{floor_map};
 ghost use Rattle.steps.specs.inner.Leading.{open_past, permitted as permitted_of, lead_of};
 
-// Column and row change of a heading, each plus one.
-#[derive(Clone, Copy)]
-pub struct Change {
-    pub column: usize,
-    pub row: usize,
-}
+use floor::{Floor, Spot};
 
-// Where a heading leads from a cell: to a cell by a permitted step, or nowhere.
-#[derive(Clone, Copy)]
-pub enum Lead {
-    To(usize),
-    Nowhere,
-}
+mod heading;
 
-// The one table of headings: N, NE, E, SE, S, SW, W, NW.
-const CHANGES: [Change; 8] = [
-    Change { column: 1, row: 0 },
-    Change { column: 2, row: 0 },
-    Change { column: 2, row: 1 },
-    Change { column: 2, row: 2 },
-    Change { column: 1, row: 2 },
-    Change { column: 0, row: 2 },
-    Change { column: 0, row: 1 },
-    Change { column: 0, row: 0 },
-];
-
-// A heading's column and row change, each plus one.
-pub fn change_of(heading: usize) -> Change
-    requires { heading < 8 }
-    ensures { result ≡ change_of heading }
-{
-    CHANGES[heading]
-}
+pub use heading::{Change, Heading};
 
 // Whether the cell is open, its column and row counted from one further.
-fn open_past(width: usize, height: usize, map: &[u8], column: usize, row: usize) -> bool
-    requires { SoundFloor (map_of width height map.now) }
-    ensures { result ≡ open_past (map_of width height map.now) column row }
+#[tactic(auto, unfolding(crate::specs::inner::Leading::open_past))]
+fn open_past(floor: &Floor, column: usize, row: usize) -> bool
+    ensures { result ≡ open_past (floor_map floor.now) column row }
 {
-    if column < 1 {
-        return false;
-    }
-    if row < 1 {
-        return false;
-    }
-    floor::cells::open_at(width, height, map, column - 1, row - 1)
+    1 <= column && 1 <= row && floor.open_at(column - 1, row - 1)
 }
 
 // Whether the step from (column, row) by the changes is permitted: both ends and the two cells beside are open.
-fn permitted(
-    width: usize,
-    height: usize,
-    map: &[u8],
-    across: usize,
-    down: usize,
-    column: usize,
-    row: usize,
-) -> bool
-    requires sound_floor { SoundFloor (map_of width height map.now) }
-    requires across_bound { ((across ≤ 2) × (down ≤ 2)) × ((column < 128) × (row < 128)) }
-    ensures { result ≡ permitted_of (map_of width height map.now) across down column row }
+#[tactic(auto, unfolding(crate::specs::inner::Leading::permitted))]
+fn permitted(floor: &Floor, change: Change, column: usize, row: usize) -> bool
+    requires changes { (change.column ≤ 2) × (change.row ≤ 2) }
+    requires place { (column < 128) × (row < 128) }
+    ensures { result ≡ permitted_of (floor_map floor.now) change.column change.row column row }
 {
-    if !open_past(width, height, map, column + 1, row + 1) {
-        return false;
-    }
-    if !open_past(width, height, map, column + across, row + down) {
-        return false;
-    }
-    if !open_past(width, height, map, column + 1, row + down) {
-        return false;
-    }
-    open_past(width, height, map, column + across, row + 1)
+    open_past(floor, column + 1, row + 1)
+        && open_past(floor, column + change.column, row + change.row)
+        && open_past(floor, column + 1, row + change.row)
+        && open_past(floor, column + change.column, row + 1)
 }
 
-// Where a heading leads from a cell.
-pub fn lead_of(width: usize, height: usize, map: &[u8], heading: usize, cell: usize) -> Lead
-    requires sound_floor { SoundFloor (map_of width height map.now) }
-    requires heading_bound { (heading < 8) × (cell < height * width) }
-    ensures { result ≡ lead_of (map_of width height map.now) heading cell }
+// Where a heading leads from a cell: to a cell by a permitted step, or nowhere.
+pub fn lead_of(floor: &Floor, heading: Heading, cell: usize) -> Option<usize>
+    requires { cell < cells (floor_map floor.now) }
+    ensures { result ≡ lead_of (floor_map floor.now) heading.number cell }
 {
-    let change = change_of(heading);
-    let column = cell % width;
-    let row = cell / width;
-    if !permitted(width, height, map, change.column, change.row, column, row) {
-        return Lead::Nowhere;
+    let change = heading.change();
+    let column = cell % floor.width;
+    let row = cell / floor.width;
+    if !permitted(floor, change, column, row) {
+        return None;
     }
-    Lead::To((row + change.row - 1) * width + (column + change.column - 1))
+    Some(floor.cell_of(Spot {
+        column: column + change.column - 1,
+        row: row + change.row - 1,
+    }))
 }

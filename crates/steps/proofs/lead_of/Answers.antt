@@ -1,60 +1,50 @@
--- `steps::lead_of` meets its contract: a permitted step ends on the floor (`leads_end`), so nothing wraps, and
--- each way out is a law of proofs/Stepping.
-use Prim.Native.Nat.{ℕ, ◌-◌, ◌*◌, ◌≤◌}
+-- `steps::lead_of` meets its contract: a permitted step ends on the floor (`leads_end`), so nothing wraps, and each way
+-- out is a law of proofs/Stepping.
+use mathlib.Core.Path.{◌∙◌, ap}
+use Prim.Native.Nat.{ℕ}
 use native.Mathlib.Omega.{arith}
-use Rattle.floor.specs.Floor.{Map, map_of}
-use Rattle.floor.specs.inner.Ready.{SoundFloor}
+use Rattle.std.specs.Prelude.{Some}
+use Rattle.floor.specs.Lent.{floor_map}
 use Rattle.steps.proofs.Headings.{changes_of}
-use Rattle.floor.proofs.Reading.{small}
-use Rattle.steps.proofs.Stepping.{place, StepEnds, leads_nowhere, leads_to, leads_end}
+use Rattle.steps.proofs.Stepping.{place, leads_nowhere, leads_to, leads_end}
 use Rattle.steps.proofs.lead_of.Goals as goal
 
--- the end of a permitted step, its column and row counted from one further
-record EndsAt (m : Map) (column row : ℕ) : Type 0 where
-  past : StepEnds m column row
-  wide : m.width ≤ 128
-  high : m.height ≤ 128
-  product : (row - 1) * m.width ≤ 16384
-
-ends : (m : Map) (column row : ℕ) → SoundFloor m → StepEnds m column row → EndsAt m column row
-ends m column row sound past =
-    let high = sound.high in
-    record { past = past; wide = sound.wide; high = high; product = small (row - 1) m.width (omega (arith, past.row_on)) sound.wide }
-
-pub permitted-requires-clause-across_bound : goal.permitted-requires-clause-across_bound
-permitted-requires-clause-across_bound c =
-    let a = c.args in
-    let sound = c.requires.sound_floor in
-    let on = place (map_of a.width a.height a.map.now) sound a.cell c.requires.heading_bound.1 in
-    let change = changes_of a.heading c.requires.heading_bound.0 in
-    (rw c.change_of-change.ensures (change.narrow, change.flat), (omega (arith, sound), omega (arith, sound)))
+pub permitted-requires : goal.permitted-requires
+permitted-requires c =
+    let floor = c.args.floor.now in
+    let on = place (floor_map floor) floor.sound c.args.cell c.requires in
+    let change = changes_of c.args.heading.number c.args.heading.known in
+    record {
+      changes = rw c.change-change.ensures (change.narrow, change.flat);
+      place = (omega (arith, floor.sound), omega (arith, floor.sound));
+    }
 
 pub returns-then-not-permitted : goal.returns-then-not-permitted
-returns-then-not-permitted c = leads_nowhere (map_of _ _ _) _ _ _ c.change_of-change.ensures _ c.permitted.ensures c.if-not-permitted.true
+returns-then-not-permitted c =
+    leads_nowhere (floor_map c.args.floor.now) _ _ _ c.change-change.ensures _ c.permitted.ensures c.if-not-permitted.true
 
-pub overflow_add-result : goal.overflow_add-result
-overflow_add-result c =
-    omega (arith, ends _ _ _ c.requires.sound_floor (leads_end (map_of _ _ _) _ _ _ c.change_of-change.ensures _ c.permitted.ensures c.if-not-permitted.false))
+pub overflow_add-column : goal.overflow_add-column
+overflow_add-column c =
+    omega (arith, leads_end (floor_map c.args.floor.now) _ _ _ c.change-change.ensures _ c.permitted.ensures c.if-not-permitted.false, c.args.floor.now.sound)
 
-pub overflow_sub-result : goal.overflow_sub-result
-overflow_sub-result c =
-    (ends _ _ _ c.requires.sound_floor (leads_end (map_of _ _ _) _ _ _ c.change_of-change.ensures _ c.permitted.ensures c.if-not-permitted.false)).past.some_row
+pub overflow_sub-column : goal.overflow_sub-column
+overflow_sub-column c =
+    (leads_end (floor_map c.args.floor.now) _ _ _ c.change-change.ensures _ c.permitted.ensures c.if-not-permitted.false).some_column
 
-pub overflow_mul-result : goal.overflow_mul-result
-overflow_mul-result c =
-    omega (arith, (ends _ _ _ c.requires.sound_floor (leads_end (map_of _ _ _) _ _ _ c.change_of-change.ensures _ c.permitted.ensures c.if-not-permitted.false)).product)
+pub overflow_add-row : goal.overflow_add-row
+overflow_add-row c =
+    omega (arith, leads_end (floor_map c.args.floor.now) _ _ _ c.change-change.ensures _ c.permitted.ensures c.if-not-permitted.false, c.args.floor.now.sound)
 
-pub overflow_add-result-2 : goal.overflow_add-result-2
-overflow_add-result-2 c =
-    omega (arith, ends _ _ _ c.requires.sound_floor (leads_end (map_of _ _ _) _ _ _ c.change_of-change.ensures _ c.permitted.ensures c.if-not-permitted.false))
+pub overflow_sub-row : goal.overflow_sub-row
+overflow_sub-row c =
+    (leads_end (floor_map c.args.floor.now) _ _ _ c.change-change.ensures _ c.permitted.ensures c.if-not-permitted.false).some_row
 
-pub overflow_sub-result-2 : goal.overflow_sub-result-2
-overflow_sub-result-2 c =
-    (ends _ _ _ c.requires.sound_floor (leads_end (map_of _ _ _) _ _ _ c.change_of-change.ensures _ c.permitted.ensures c.if-not-permitted.false)).past.some_column
-
-pub overflow_add-result-3 : goal.overflow_add-result-3
-overflow_add-result-3 c =
-    omega (arith, ends _ _ _ c.requires.sound_floor (leads_end (map_of _ _ _) _ _ _ c.change_of-change.ensures _ c.permitted.ensures c.if-not-permitted.false))
+pub cell_of-requires : goal.cell_of-requires
+cell_of-requires c =
+    let end = leads_end (floor_map c.args.floor.now) _ _ _ c.change-change.ensures _ c.permitted.ensures c.if-not-permitted.false in
+    (omega (arith, end), omega (arith, end))
 
 pub returns : goal.returns
-returns c = leads_to (map_of _ _ _) _ _ _ c.change_of-change.ensures _ c.permitted.ensures c.if-not-permitted.false
+returns c =
+    ap (λ (y : ℕ). Some y) c.cell_of.ensures
+    ∙ leads_to (floor_map c.args.floor.now) _ _ _ c.change-change.ensures _ c.permitted.ensures c.if-not-permitted.false

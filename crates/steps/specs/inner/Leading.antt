@@ -1,9 +1,7 @@
 -- Where a heading leads from a cell, as the code reads it.
-use Rattle.std.specs.Prelude.{Bool, ℕ, ◌+◌, ◌-◌, ◌%◌, ◌/◌, ltb}
+use Rattle.std.specs.Prelude.{Bool, Option, Some, None, ℕ, ◌+◌, ◌-◌, ◌%◌, ◌/◌, ltb}
 use Rattle.answers.specs.Bools.{pick, both}
 use Rattle.floor.specs.Floor.{Map, open?, cell_of}
-use Rattle.steps.specs.declared.Lead.{Lead}
-use Rattle.steps.specs.declared.Lead.TheVariants as lead
 use Rattle.steps.specs.Heading.{change_of}
 
 -- whether a cell is open, its column and row counted from one further, so that a change of −1 stays a whole number
@@ -17,8 +15,8 @@ permitted m across down column row =
     (both (open_past m (column + across) (row + down)) (both (open_past m (column + 1) (row + down)) (open_past m (column + across) (row + 1))))
 
 -- where a heading leads from a cell
-unfoldable pub lead_of : Map → ℕ → ℕ → Lead
+unfoldable pub lead_of : Map → ℕ → ℕ → Option ℕ
 lead_of m h x =
     pick (permitted m (change_of h).column (change_of h).row (x % m.width) (x / m.width))
-    (lead.To (cell_of m (x % m.width + (change_of h).column - 1) (x / m.width + (change_of h).row - 1)))
-    lead.Nowhere
+    (Some (cell_of m (x % m.width + (change_of h).column - 1) (x / m.width + (change_of h).row - 1)))
+    None
