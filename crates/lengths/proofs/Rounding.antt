@@ -1,7 +1,7 @@
 -- The whole number nearest to m√2: there is only one, and a tie never occurs.
 use mathlib.Core.Path.{◌≡◌, ap}
 use mathlib.Core.Logic.{◌≢◌}
-use Prim.Native.Nat.{ℕ, suc, ◌+◌, ◌-◌, ◌*◌, ◌≤◌, ◌<◌}
+use Prim.Native.Nat.{ℕ, suc, ◌+◌, ◌-◌, ◌*◌, ◌/◌, ◌≤◌, ◌<◌}
 use native.Mathlib.Nat.{mul-le-mul}
 use native.Mathlib.Decide.{dec_le}
 use native.Mathlib.Omega.{arith}
@@ -26,6 +26,27 @@ nearest_unique m n k a b = by (dec_le (suc n) k) (dec_le (suc k) n)
     by (yes p) q = absurd (not_less m n k a b p)
     by (no p) (yes q) = absurd (not_less m k n b a q)
     by (no p) (no q) = omega arith
+
+-- half the square root of 8m², both rounded so, is nearest: the odd square below it is not 8m², which is even
+module _ (m r : ℕ) (low : r * r ≤ 8 * (m * m)) (high : 8 * (m * m) < (r + 1) * (r + 1)) where
+  odd_below : (k : ℕ) → 2 * k + 1 ≤ r → (2 * k + 1) * (2 * k + 1) < 8 * (m * m)
+  odd_below k p = omega (arith, mul-le-mul p p)
+
+  pub nearest_half : Nearest m ((r + 1) / 2)
+  nearest_half =
+      let n = (r + 1) / 2 in
+      let p : r + 1 ≤ 2 * n + 1 = omega arith in
+      record {
+        above = omega (arith, mul-le-mul p p);
+        below = λ h. let e : 2 * n - 1 ≡ 2 * (n - 1) + 1 = omega arith in rw e (odd_below (n - 1) (omega arith));
+      }
+
+  pub half_small : (r + 1) / 2 ≤ 2 * m
+  half_small = by (dec_le ((r + 1) / 2) (2 * m))
+    where
+      by : Dec ((r + 1) / 2 ≤ 2 * m) → (r + 1) / 2 ≤ 2 * m
+      by (yes p) = p
+      by (no p) = let q : 4 * m + 1 ≤ r = omega arith in omega (arith, mul-le-mul q q)
 
 -- the distance spoken is the only such number
 pub spoken_unique : (size : ℕ) (l : Length) (n k : ℕ) → Spoken size l n → Spoken size l k → n ≡ k

@@ -1,12 +1,13 @@
--- `lengths::nearest` meets its contract. The invariant: the nearest number lies from low to high, said by the squares of
--- the odd numbers beside them, so that at the end it is low.
-use Prim.Native.Nat.{◌≤◌, ◌-◌, ◌*◌}
-use native.Mathlib.Nat.{mul-le-mul, mul-pos}
+-- `lengths::nearest` meets its contract: half the root of 8m², rounded, is the nearest number.
 use native.Mathlib.Omega.{arith}
+use Rattle.lengths.proofs.Rounding.{nearest_half, half_small}
 use Rattle.lengths.proofs.nearest.Goals as goal
 
-pub loop-low-init : goal.loop-low-init
-loop-low-init c =
-    let m = c.args.m in
-    let low : 2 * m - 1 ≤ 2 * m = omega arith in
-    (omega arith, omega arith, omega arith, omega arith, omega arith, λ h. omega (arith, mul-le-mul low low, mul-pos h h))
+pub overflow_add-result : goal.overflow_add-result
+overflow_add-result c = omega (arith, c.isqrt.ensures.bound)
+
+pub returns : goal.returns
+returns c =
+    let low = c.isqrt.ensures.square_le in
+    let high = c.isqrt.ensures.next_square_gt in
+    (nearest_half _ _ low high, half_small _ _ low high)
