@@ -8,6 +8,7 @@ use native.Mathlib.Decide.{dec_lt, ℕ_discrete}
 use native.Mathlib.Omega.{arith}
 use lib.Dec.{T}
 use Rattle.rooms.specs.declared.Room.{Room}
+use Rattle.answers.specs.Bools.{run}
 use Rattle.floor.specs.Floor.{Map, open?, Open}
 use Rattle.rooms.specs.Room.{top_of, bottom_of, left_of, right_of, column_open, room_of}
 use Rattle.floor.proofs.Reading.{open_on}
@@ -29,6 +30,15 @@ west m top bottom column = backward (column_open m top bottom) column
 pub east : (m : Map) (top bottom column : ℕ) → column < m.width → Forward (column_open m top bottom) m.width column (right_of m top bottom column)
 unfolding right_of
 east m top bottom column on = forward (column_open m top bottom) m.width column on
+
+-- what growth has counted in each direction, as a room
+pub room_is : (m : Map) (column row : ℕ) (north south west east : ℕ)
+    → north ≡ run (λ i. open? m column (row - 1 - i)) row → south ≡ run (λ i. open? m column (row + 1 + i)) (m.height - 1 - row)
+    → west ≡ run (λ i. column_open m (row - north) (row + south) (column - 1 - i)) column
+    → east ≡ run (λ i. column_open m (row - north) (row + south) (column + 1 + i)) (m.width - 1 - column)
+    → record { left = column - west; top = row - north; right = column + east; bottom = row + south } ≡ room_of m column row
+unfolding top_of bottom_of left_of right_of
+room_is m column row north south west east n s w e = let w' = rw (n, s) at w in let e' = rw (n, s) at e in cc
 
 -- a cell lies in a room
 pub record Inside (room : Room) (column row : ℕ) : Type 0 where
