@@ -73,7 +73,7 @@ fn place_of(from: usize, heading: usize) -> usize
     requires heading_bound { heading < 8 }
     ensures { result ≡ target from heading }
 {
-    let change = steps::change_of(heading);
+    let change = steps::Heading { number: heading }.change();
     from + change.row * STRIDE + change.column - (STRIDE + 1)
 }
 
