@@ -6,9 +6,8 @@ use native.Mathlib.Omega.{arith}
 use lib.ListN.{length, drop, length-drop}
 use lib.Seq.{drop-drop}
 use borrow.Author.Tests.{eq-eqb, ne_eqb}
+use Rattle.std.specs.Prelude.{Option, Some, None}
 use Rattle.plan.specs.declared.Content.{Content}
-use Rattle.plan.specs.declared.Record.{Record}
-use Rattle.plan.specs.declared.Record.TheVariants.{Read, Broken}
 use Rattle.plan.specs.Records.{number_in, kind_in}
 use Rattle.plan.specs.Break.{Wrong, Any}
 use Rattle.plan.specs.Break.Wrong.{cut_off, wrong_kind}
@@ -16,37 +15,38 @@ use Rattle.plan.specs.inner.Steps.{content_at, record_at, of_fixed_length, fixed
 use Rattle.plan.proofs.Chain.{whole_read, wrong_read, found_at}
 
 module _ (bytes : List ℕ) (at kind : ℕ) where
-  not_read : Wrong kind Any (drop at bytes) → Broken ≡ record_at bytes at kind
+  not_read : Wrong kind Any (drop at bytes) → None ≡ record_at bytes at kind
   not_read w = sym (wrong_read (drop at bytes) at kind Any w _ (found_at bytes at kind))
 
   kind_there : (k : ℕ) → k ≡ number_in (drop (at + 2) bytes) → kind_in (drop at bytes) ≡ k
   kind_there k e = ap number_in (drop-drop 2 at bytes) ∙ sym e
 
-  pub header_cut : length bytes - at < 4 → Broken ≡ record_at bytes at kind
+  pub header_cut : length bytes - at < 4 → None ≡ record_at bytes at kind
   header_cut h = not_read (cut_off (omega (arith, length-drop at bytes)))
 
   module _ (n : ℕ) (stated : n ≡ number_in (drop at bytes)) where
-    pub content_cut : length bytes - at - 4 < n → Broken ≡ record_at bytes at kind
+    pub content_cut : length bytes - at - 4 < n → None ≡ record_at bytes at kind
     content_cut h = not_read (cut_off (omega (arith, length-drop at bytes)))
 
-    pub other_kind : (k : ℕ) → k ≡ number_in (drop (at + 2) bytes) → (k ≡ kind → ⊥) → Broken ≡ record_at bytes at kind
+    pub other_kind : (k : ℕ) → k ≡ number_in (drop (at + 2) bytes) → (k ≡ kind → ⊥) → None ≡ record_at bytes at kind
     other_kind k e h = not_read (wrong_kind (λ f. h (sym (kind_there k e) ∙ f)))
 
     pub read_here : (k : ℕ) → k ≡ number_in (drop (at + 2) bytes) → k ≡ kind → 4 ≤ length bytes - at → n ≤ length bytes - at - 4
-        → Read (content_at at n) ≡ record_at bytes at kind
+        → Some (content_at at n) ≡ record_at bytes at kind
     read_here k e f h l =
-        ap (λ (m : ℕ). Read (content_at at m)) stated
+        ap (λ (m : ℕ). Some (content_at at m)) stated
         ∙ sym (whole_read (drop at bytes) at kind Any (omega (arith, length-drop at bytes)) (kind_there k e ∙ f) tt _ (found_at bytes at kind))
 
-  module _ (n : ℕ) (r : Record) (e : r ≡ record_at bytes at kind) where
-    pub fixed_not_read : r ≡ Broken → Broken ≡ fixed_record_at bytes at kind n
-    unfolding of_fixed_length fixed_record_at
-    fixed_not_read f = ap (of_fixed_length n) (sym f ∙ e)
+module _ (bytes : List ℕ) (at kind n : ℕ) where
+  pub fixed_not_read : None ≡ record_at bytes at kind → None ≡ fixed_record_at bytes at kind n
+  unfolding of_fixed_length fixed_record_at
+  fixed_not_read e = ap (of_fixed_length n) e
 
-    pub other_length : (content : Content) → r ≡ Read content → (content.len ≡ n → ⊥) → Broken ≡ fixed_record_at bytes at kind n
+  module _ (content : Content) (e : Some content ≡ record_at bytes at kind) where
+    pub other_length : (content.len ≡ n → ⊥) → None ≡ fixed_record_at bytes at kind n
     unfolding of_fixed_length fixed_record_at
-    other_length content f h = rw (← e, f) (simp (ne_eqb _ _ h))
+    other_length h = rw (← e) (simp (ne_eqb _ _ h))
 
-    pub fixed_read : (content : Content) → r ≡ Read content → content.len ≡ n → Read content ≡ fixed_record_at bytes at kind n
+    pub fixed_read : content.len ≡ n → Some content ≡ fixed_record_at bytes at kind n
     unfolding of_fixed_length fixed_record_at
-    fixed_read content f h = rw (← e, f) (simp (eq-eqb _ _ h))
+    fixed_read h = rw (← e) (simp (eq-eqb _ _ h))
