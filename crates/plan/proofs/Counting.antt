@@ -4,12 +4,15 @@ use mathlib.Core.List.{List}
 use Prim.Native.Nat.{ℕ, zero, suc, ◌+◌, ◌-◌, ◌<◌, ◌≤◌}
 use native.Mathlib.Omega.{arith}
 use lib.ListN.{length}
-use Rattle.std.specs.Prelude.{Option, Some, None}
+use Rattle.std.specs.Prelude.{Option, Some, None, Ok, Err}
+use Rattle.answers.specs.declared.Refusal.{Refusal}
 use Rattle.plan.specs.declared.Content.{Content}
-use Rattle.plan.specs.inner.Steps.{fixed_record_at, and_more, count_from}
+use Rattle.plan.specs.inner.Steps.{or_broken, fixed_record_at, and_more, count_from}
+use Rattle.plan.proofs.Ways.{there, not_there}
 
 -- no more than are wanted are counted
 pub count_few : (bytes : List ℕ) (left at : ℕ) → count_from bytes left at ≤ left
+unfolding count_from
 count_few bytes zero at = omega arith
 count_few bytes (suc left) at = go (count_few bytes left) (fixed_record_at bytes at 4 8)
   where
@@ -23,18 +26,20 @@ Counting bytes first count at = count + count_from bytes (64 - count) at ≡ cou
 
 module _ (bytes : List ℕ) (first count at : ℕ) (k : Counting bytes first count at) where
   pub counting_full : count ≡ 64 → 64 ≡ count_from bytes 64 first
+  unfolding count_from
   counting_full h =
       let none : 64 - count ≡ 0 = omega arith in
       omega (arith, rw none at k)
 
-  module _ (less : count < 64) (r : Option Content) (e : r ≡ fixed_record_at bytes at 4 8) where
-    turn : count_from bytes (64 - count) at ≡ and_more (count_from bytes (64 - (count + 1))) r
-    turn =
+  module _ (less : count < 64) where
+    turn : {o : Option Content} → fixed_record_at bytes at 4 8 ≡ o → count_from bytes (64 - count) at ≡ and_more (count_from bytes (64 - (count + 1))) o
+    unfolding count_from
+    turn e =
         let step : 64 - count ≡ suc (64 - (count + 1)) = omega arith in
         rw (step, e)
 
-    pub counting_stops : r ≡ None → count ≡ count_from bytes 64 first
-    counting_stops f = omega (arith, k, turn ∙ ap (and_more (count_from bytes (64 - (count + 1)))) f)
+    pub counting_stops : {f : Refusal} → Err f ≡ or_broken at (fixed_record_at bytes at 4 8) → count ≡ count_from bytes 64 first
+    counting_stops h = omega (arith, k, turn (not_there h).0)
 
-    pub counting_goes_on : (query : Content) → r ≡ Some query → Counting bytes first (count + 1) query.next
-    counting_goes_on query f = omega (arith, k, turn ∙ ap (and_more (count_from bytes (64 - (count + 1)))) f)
+    pub counting_goes_on : (query : Content) → Ok query ≡ or_broken at (fixed_record_at bytes at 4 8) → Counting bytes first (count + 1) query.next
+    counting_goes_on query h = omega (arith, k, turn (there _ h))

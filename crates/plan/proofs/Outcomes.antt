@@ -4,7 +4,7 @@ use mathlib.Core.List.{List}
 use Prim.Native.Nat.{ℕ, ◌+◌, ◌*◌, ◌≤◌}
 use native.Mathlib.Omega.{arith}
 use lib.ListN.{length, drop}
-use Rattle.std.specs.Prelude.{Bool, true, false, ok_or, Option, Some, None, Result, Ok, Err, IsErr, IsErrAnd}
+use Rattle.std.specs.Prelude.{Bool, true, false, Option, Some, None, Result, Ok, Err, IsErr, IsErrAnd}
 use Rattle.std.proofs.lemmas.Result.{err_from_is_err_and}
 use Rattle.answers.specs.declared.Refusal.{Refusal}
 use Rattle.answers.specs.declared.Refusal.TheVariants.{PlanBroken}
@@ -15,8 +15,9 @@ use Rattle.plan.specs.declared.Plan.{Plan}
 use Rattle.plan.specs.Records.{number_in}
 use Rattle.plan.specs.Break.{Fixed, Any}
 use Rattle.plan.specs.Reads.{plan_given, Reads}
-use Rattle.plan.specs.inner.Steps.{record_at, fixed_record_at, count_from, goes_on_at, after_end, after_queries, after_size, after_map, after_floor, reading_of}
+use Rattle.plan.specs.inner.Steps.{or_broken, record_at, fixed_record_at, count_from, goes_on_at, after_end, after_queries, after_size, after_map, after_floor, reading_of}
 use Rattle.plan.proofs.Numbers.{Bytes}
+use Rattle.plan.proofs.Ways.{there, not_there}
 use Rattle.plan.proofs.Counting.{count_few}
 use Rattle.plan.proofs.Chain.{Lies, lies, found_at, found_fixed_at}
 use Rattle.plan.proofs.Answers.{sound_read, broken_read}
@@ -29,15 +30,6 @@ answered bytes b r e = go (judge bytes b)
     go : Told bytes → Reads bytes r
     go (Told.sound c s) = Reads.sound c s (ap (gives plan_given) (sym e ∙ sound_read bytes c s))
     go (Told.broken at k) = Reads.broken at k (ap (gives plan_given) (sym e ∙ broken_read bytes at k))
-
--- what a `?` shows of the record that was asked for
-there : (e : Refusal) {o : Option Content} {x : Content} → Ok x ≡ ok_or o e → o ≡ Some x
-there e {o = Some y} h = cc
-there e {o = None} h = cc
-
-not_there : {o : Option Content} {e f : Refusal} → Err f ≡ ok_or o e → (o ≡ None) × (e ≡ f)
-not_there {o = Some y} h = cc
-not_there {o = None} h = (refl, cc)
 
 -- what is known once the first record is read, then the second, then the third
 pub record FloorRead (bytes : List ℕ) (floor : Content) : Type 0 where
@@ -52,12 +44,12 @@ pub record SizeRead (bytes : List ℕ) (floor map size : Content) : Type 0 where
   pub before : MapRead bytes floor map
   pub found : fixed_record_at bytes map.next 3 2 ≡ Some size
 
-module _ {bytes : List ℕ} (known : Bytes bytes) (r : Option Content) (e : r ≡ fixed_record_at bytes 0 1 4) where
-  pub floor_read : {floor : Content} → Ok floor ≡ ok_or r (PlanBroken 0) → FloorRead bytes floor
-  floor_read h = record { known = known; found = sym e ∙ there _ h }
+module _ {bytes : List ℕ} (known : Bytes bytes) where
+  pub floor_read : {floor : Content} → Ok floor ≡ or_broken 0 (fixed_record_at bytes 0 1 4) → FloorRead bytes floor
+  floor_read h = record { known = known; found = there _ h }
 
-  pub floor_broken : {f : Refusal} → Err f ≡ ok_or r (PlanBroken 0) → Reads bytes (Err f)
-  floor_broken h = let (none, same) = not_there h in answered bytes known _ (ap (after_floor bytes) (sym e ∙ none) ∙ ap Err same)
+  pub floor_broken : {f : Refusal} → Err f ≡ or_broken 0 (fixed_record_at bytes 0 1 4) → Reads bytes (Err f)
+  floor_broken h = let (none, same) = not_there h in answered bytes known _ (ap (after_floor bytes) none ∙ ap Err same)
 
 module _ {bytes : List ℕ} {floor : Content} (before : FloorRead bytes floor) where
   floor_step : reading_of bytes ≡ after_map bytes floor (record_at bytes floor.next 2)
@@ -66,27 +58,25 @@ module _ {bytes : List ℕ} {floor : Content} (before : FloorRead bytes floor) w
   pub floor_lies : Lies bytes 0 (Fixed 4) floor
   floor_lies = lies bytes 0 1 (Fixed 4) _ (found_fixed_at bytes 0 1 4) floor before.found
 
-  module _ (r : Option Content) (e : r ≡ record_at bytes floor.next 2) where
-    pub map_read : {map : Content} → Ok map ≡ ok_or r (PlanBroken floor.next) → MapRead bytes floor map
-    map_read h = record { before = before; found = sym e ∙ there _ h }
+  pub map_read : {map : Content} → Ok map ≡ or_broken floor.next (record_at bytes floor.next 2) → MapRead bytes floor map
+  map_read h = record { before = before; found = there _ h }
 
-    pub map_broken : {f : Refusal} → Err f ≡ ok_or r (PlanBroken floor.next) → Reads bytes (Err f)
-    map_broken h =
-        let (none, same) = not_there h in
-        answered bytes before.known _ (floor_step ∙ (ap (after_map bytes floor) (sym e ∙ none) ∙ ap Err same))
+  pub map_broken : {f : Refusal} → Err f ≡ or_broken floor.next (record_at bytes floor.next 2) → Reads bytes (Err f)
+  map_broken h =
+      let (none, same) = not_there h in
+      answered bytes before.known _ (floor_step ∙ (ap (after_map bytes floor) none ∙ ap Err same))
 
 module _ {bytes : List ℕ} {floor map : Content} (before : MapRead bytes floor map) where
   map_step : reading_of bytes ≡ after_size bytes floor map (fixed_record_at bytes map.next 3 2)
   map_step = floor_step before.before ∙ ap (after_map bytes floor) before.found
 
-  module _ (r : Option Content) (e : r ≡ fixed_record_at bytes map.next 3 2) where
-    pub size_read : {size : Content} → Ok size ≡ ok_or r (PlanBroken map.next) → SizeRead bytes floor map size
-    size_read h = record { before = before; found = sym e ∙ there _ h }
+  pub size_read : {size : Content} → Ok size ≡ or_broken map.next (fixed_record_at bytes map.next 3 2) → SizeRead bytes floor map size
+  size_read h = record { before = before; found = there _ h }
 
-    pub size_broken : {f : Refusal} → Err f ≡ ok_or r (PlanBroken map.next) → Reads bytes (Err f)
-    size_broken h =
-        let (none, same) = not_there h in
-        answered bytes before.before.known _ (map_step ∙ (ap (after_size bytes floor map) (sym e ∙ none) ∙ ap Err same))
+  pub size_broken : {f : Refusal} → Err f ≡ or_broken map.next (fixed_record_at bytes map.next 3 2) → Reads bytes (Err f)
+  size_broken h =
+      let (none, same) = not_there h in
+      answered bytes before.before.known _ (map_step ∙ (ap (after_size bytes floor map) none ∙ ap Err same))
 
 module _ {bytes : List ℕ} {floor map size : Content} (before : SizeRead bytes floor map size) where
   pub size_lies : Lies bytes map.next (Fixed 2) size

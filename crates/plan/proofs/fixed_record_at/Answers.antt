@@ -1,9 +1,12 @@
 -- `plan::fixed_record_at` meets its contract: it reads a record, and then asks for the length of its content.
+use Rattle.std.proofs.lemmas.Result.{err_from_is_err_and}
 use Rattle.plan.proofs.Ways.{fixed_not_read, other_length, fixed_read}
 use Rattle.plan.proofs.fixed_record_at.Goals as goal
 
 pub returns-in_err-content : goal.returns-in_err-content
-returns-in_err-content c = rw c.from_residual.ensures (fixed_not_read _ _ _ _ c.in_err-content.ensures)
+returns-in_err-content c =
+    let p = err_from_is_err_and c.from_residual.result c.from_residual.ensures.1 in
+    rw (p.1, p.2) (fixed_not_read _ _ _ _ c.in_err-content.ensures)
 
 pub returns-then-content-len : goal.returns-then-content-len
 returns-then-content-len c = other_length _ _ _ _ _ c.in_ok-content.ensures c.if-content-len.true

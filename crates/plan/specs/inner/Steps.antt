@@ -1,6 +1,7 @@
 -- What the reader's inner functions answer, step by step. Nothing that the reader promises is stated with these: they
 -- are tied to sound and broken plans by laws.
-use Rattle.std.specs.Prelude.{Bool, true, false, List, ℕ, zero, suc, ◌+◌, ◌*◌, length, drop, ltb, leb, eqb, Option, Some, None, Result, Ok}
+use Rattle.std.specs.Prelude.{Bool, true, false, List, ℕ, zero, suc, ◌+◌, ◌*◌, length, drop, ltb, leb, eqb, Option, Some, None, ok_or, Result, Ok}
+use Rattle.answers.specs.declared.Refusal.TheVariants as refusal
 use Rattle.answers.specs.declared.Refusal.{Refusal}
 use Rattle.answers.specs.Bools.{pick}
 use Rattle.plan.specs.declared.Plan.{Plan}
@@ -41,13 +42,17 @@ of_fixed_length n None = None
 unfoldable pub fixed_record_at : List ℕ → ℕ → ℕ → ℕ → Option Content
 fixed_record_at bytes at kind n = of_fixed_length n (record_at bytes at kind)
 
+-- a record that was asked for, or a break at the offset
+abbrev pub or_broken : ℕ → Option Content → Result Content Refusal
+or_broken at found = ok_or found (refusal.PlanBroken at)
+
 -- one more query, where its record was read
 abbrev pub and_more : (ℕ → ℕ) → Option Content → ℕ
 and_more more (Some c) = suc (more c.next)
 and_more more None = 0
 
 -- how many queries stand one after another from an offset, of which so many are counted at most
-abbrev pub count_from : List ℕ → ℕ → ℕ → ℕ
+unfoldable pub count_from : List ℕ → ℕ → ℕ → ℕ
 count_from bytes zero at = 0
 count_from bytes (suc left) at = and_more (λ next. count_from bytes left next) (fixed_record_at bytes at 4 8)
 
