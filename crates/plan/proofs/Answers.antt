@@ -16,7 +16,7 @@ use Rattle.plan.specs.Break.{Wrong, Fixed, Any, Broken}
 use Rattle.plan.specs.Break.Wrong.{cut_off}
 use Rattle.plan.specs.Break.Broken.{at_floor, at_map, at_size, at_query}
 use Rattle.plan.specs.Reads.{plan_of, broken_at}
-use Rattle.plan.specs.inner.Steps.{content_at, record_at, fixed_record_at, count_from, goes_on_at, after_end, after_queries, after_size, after_map, after_floor, reading_of}
+use Rattle.plan.specs.inner.Steps.{content_at, record_at, fixed_record_at, count_from, after_end, after_queries, after_size, after_map, after_floor, reading_of}
 use Rattle.plan.proofs.Numbers.{number_read}
 use Rattle.plan.proofs.Chain.{right_read, wrong_read, found_at, found_fixed_at, next_rest}
 use Rattle.plan.proofs.Queries.{count_right}

@@ -1,5 +1,5 @@
 -- One record of the chain: what reading it answers, where the rest of the bytes begins with it and where it does not.
-use mathlib.Core.Path.{◌≡◌, refl, sym, ◌∙◌, ap, ap₂, subst, subst⁻¹}
+use mathlib.Core.Path.{◌≡◌, refl, sym, ◌∙◌, ap, ap₂, subst⁻¹}
 use mathlib.Core.Bool.{Bool, true, false}
 use mathlib.Core.List.{List, ◌++◌}
 use Prim.Native.Nat.{ℕ, ◌+◌, ◌-◌, ◌≤◌}
@@ -118,18 +118,3 @@ module _ (bytes : List ℕ) (at kind : ℕ) where
   next_rest content after e =
       let same : at + 4 + length content ≡ at + (4 + length content) = omega arith in
       rw same (sym (drop-drop (4 + length content) at bytes) ∙ (begins (drop at bytes) kind content after e).goes_on)
-
--- where the content of a record that was read lies
-pub record Lies (bytes : List ℕ) (at : ℕ) (Takes : ℕ → Type 0) (c : Content) : Type 0 where
-  pub begins_at : c.at ≡ at + 4
-  pub next_at : c.next ≡ at + 4 + c.len
-  pub within : c.next ≤ length bytes
-  pub right_length : Takes c.len
-
-pub lies : (bytes : List ℕ) (at kind : ℕ) (Takes : ℕ → Type 0) → (r : Option Content) → Met (drop at bytes) at kind Takes r
-    → (c : Content) → r ≡ Some c → Lies bytes at Takes c
-lies bytes at kind Takes r (whole h k t) c e =
-    let same : content_at at (length_in (drop at bytes)) ≡ c = cc in
-    subst (Lies bytes at Takes) same
-    (record { begins_at = refl; next_at = refl; within = omega (arith, length-drop at bytes); right_length = t })
-lies bytes at kind Takes r (wrong w) c e = cc

@@ -1,24 +1,13 @@
 -- The loop that counts queries: what holds at each turn.
-use mathlib.Core.Path.{◌≡◌, sym, ◌∙◌, ap}
+use mathlib.Core.Path.{◌≡◌}
 use mathlib.Core.List.{List}
-use Prim.Native.Nat.{ℕ, zero, suc, ◌+◌, ◌-◌, ◌<◌, ◌≤◌}
+use Prim.Native.Nat.{ℕ, suc, ◌+◌, ◌-◌, ◌<◌}
 use native.Mathlib.Omega.{arith}
-use lib.ListN.{length}
-use Rattle.std.specs.Prelude.{Option, Some, None, Ok, Err}
+use Rattle.std.specs.Prelude.{Option, Ok, Err}
 use Rattle.answers.specs.declared.Refusal.{Refusal}
 use Rattle.plan.specs.declared.Content.{Content}
 use Rattle.plan.specs.inner.Steps.{or_broken, fixed_record_at, and_more, count_from}
 use Rattle.plan.proofs.Ways.{there, not_there}
-
--- no more than are wanted are counted
-pub count_few : (bytes : List ℕ) (left at : ℕ) → count_from bytes left at ≤ left
-unfolding count_from
-count_few bytes zero at = omega arith
-count_few bytes (suc left) at = go (count_few bytes left) (fixed_record_at bytes at 4 8)
-  where
-    go : ((next : ℕ) → count_from bytes left next ≤ left) → (r : Option Content) → and_more (count_from bytes left) r ≤ suc left
-    go h (Some c) = omega (arith, h c.next)
-    go h None = omega arith
 
 -- those that are counted, and those that still are to be, are all
 abbrev pub Counting : List ℕ → ℕ → ℕ → ℕ → Type 0

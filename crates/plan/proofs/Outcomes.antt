@@ -1,10 +1,10 @@
 -- What each way out of the reader shows: one law for each, over the definitions alone.
-use mathlib.Core.Path.{◌≡◌, refl, sym, ◌∙◌, ap}
+use mathlib.Core.Path.{◌≡◌, sym, ◌∙◌, ap}
 use mathlib.Core.List.{List}
-use Prim.Native.Nat.{ℕ, ◌+◌, ◌*◌, ◌≤◌}
-use native.Mathlib.Omega.{arith}
-use lib.ListN.{length, drop}
-use Rattle.std.specs.Prelude.{Bool, true, false, Option, Some, None, Result, Ok, Err, IsErr, IsErrAnd}
+use Prim.Native.Nat.{ℕ, ◌+◌, ◌*◌}
+use lib.ListN.{get_or, drop}
+use Rattle.std.proofs.Common.{Fits, w8}
+use Rattle.std.specs.Prelude.{Bool, Some, Result, Ok, Err, IsErr, IsErrAnd}
 use Rattle.std.proofs.lemmas.Result.{err_from_is_err_and}
 use Rattle.answers.specs.declared.Refusal.{Refusal}
 use Rattle.answers.specs.declared.Refusal.TheVariants.{PlanBroken}
@@ -13,13 +13,10 @@ use Rattle.answers.proofs.Refusals.{refuse_passed, refuse_refused}
 use Rattle.plan.specs.declared.Content.{Content}
 use Rattle.plan.specs.declared.Plan.{Plan}
 use Rattle.plan.specs.Records.{number_in}
-use Rattle.plan.specs.Break.{Fixed, Any}
 use Rattle.plan.specs.Reads.{plan_given, Reads}
 use Rattle.plan.specs.inner.Steps.{or_broken, record_at, fixed_record_at, count_from, goes_on_at, after_end, after_queries, after_size, after_map, after_floor, reading_of}
 use Rattle.plan.proofs.Numbers.{Bytes}
 use Rattle.plan.proofs.Ways.{there, not_there}
-use Rattle.plan.proofs.Counting.{count_few}
-use Rattle.plan.proofs.Chain.{Lies, lies, found_at, found_fixed_at}
 use Rattle.plan.proofs.Answers.{sound_read, broken_read}
 use Rattle.plan.proofs.Total.{Told, judge}
 
@@ -44,19 +41,16 @@ pub record SizeRead (bytes : List ℕ) (floor map size : Content) : Type 0 where
   pub before : MapRead bytes floor map
   pub found : fixed_record_at bytes map.next 3 2 ≡ Some size
 
-module _ {bytes : List ℕ} (known : Bytes bytes) where
+module _ {bytes : List ℕ} (fits : (i : ℕ) → Fits w8 (get_or bytes i 0)) where
   pub floor_read : {floor : Content} → Ok floor ≡ or_broken 0 (fixed_record_at bytes 0 1 4) → FloorRead bytes floor
-  floor_read h = record { known = known; found = there _ h }
+  floor_read h = record { known = λ i. (fits i).fits; found = there _ h }
 
   pub floor_broken : {f : Refusal} → Err f ≡ or_broken 0 (fixed_record_at bytes 0 1 4) → Reads bytes (Err f)
-  floor_broken h = let (none, same) = not_there h in answered bytes known _ (ap (after_floor bytes) none ∙ ap Err same)
+  floor_broken h = let (none, same) = not_there h in answered bytes (λ i. (fits i).fits) _ (ap (after_floor bytes) none ∙ ap Err same)
 
 module _ {bytes : List ℕ} {floor : Content} (before : FloorRead bytes floor) where
   floor_step : reading_of bytes ≡ after_map bytes floor (record_at bytes floor.next 2)
   floor_step = ap (after_floor bytes) before.found
-
-  pub floor_lies : Lies bytes 0 (Fixed 4) floor
-  floor_lies = lies bytes 0 1 (Fixed 4) _ (found_fixed_at bytes 0 1 4) floor before.found
 
   pub map_read : {map : Content} → Ok map ≡ or_broken floor.next (record_at bytes floor.next 2) → MapRead bytes floor map
   map_read h = record { before = before; found = there _ h }
@@ -79,14 +73,7 @@ module _ {bytes : List ℕ} {floor map : Content} (before : MapRead bytes floor 
       answered bytes before.before.known _ (map_step ∙ (ap (after_size bytes floor map) none ∙ ap Err same))
 
 module _ {bytes : List ℕ} {floor map size : Content} (before : SizeRead bytes floor map size) where
-  pub size_lies : Lies bytes map.next (Fixed 2) size
-  size_lies = lies bytes map.next 3 (Fixed 2) _ (found_fixed_at bytes map.next 3 2) size before.found
-
   module _ (n : ℕ) (counted : n ≡ count_from bytes 64 size.next) where
-    -- the queries' end is a number that fits
-    pub end_fits : size.next + 12 * n ≤ length bytes + 768
-    end_fits = let few : n ≤ 64 = rw counted (count_few bytes 64 size.next) in omega (arith, size_lies.within)
-
     size_step : {x : Bool} → goes_on_at bytes (size.next + 12 * n) ≡ x → reading_of bytes ≡ after_end bytes floor map size n x
     size_step e =
         map_step before.before

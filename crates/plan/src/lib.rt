@@ -2,10 +2,10 @@
 // sound plan holds and where, or the place of the break.
 #![tactic(auto)]
 
-ghost use Rattle.std.specs.Prelude.{◌≡◌, ◌+◌, ◌≤◌, length, drop};
+ghost use Rattle.std.specs.Prelude.{◌≡◌, ◌+◌, ◌≤◌, length, drop, IfOk};
 ghost use Rattle.plan.specs.Records.{number_in};
 ghost use Rattle.plan.specs.Reads.{Reads, query_at, Asks};
-ghost use Rattle.plan.specs.inner.Steps.{kind_number, or_broken, record_at, fixed_record_at, count_from};
+ghost use Rattle.plan.specs.inner.Steps.{kind_number, or_broken, record_at, fixed_record_at, count_from, Lies};
 
 use answers::Refusal;
 
@@ -60,6 +60,7 @@ struct Content {
 const MOST_QUERIES: usize = 64;
 
 // The number in the 2 bytes at an offset, little-endian.
+#[tactic(auto, using(crate::proofs::Numbers::number_there))]
 fn number_at(bytes: &[u8], at: usize) -> usize
     requires { at + 2 ≤ length bytes.now }
     ensures { result ≡ number_in (drop at bytes.now) }
@@ -70,7 +71,8 @@ fn number_at(bytes: &[u8], at: usize) -> usize
 // The record of a kind that begins at an offset. Refusal: PlanBroken there, where it is missing, cut off or of another
 // kind.
 fn record_at(bytes: &[u8], at: usize, kind: Kind) -> Result<Content, Refusal>
-    ensures { result ≡ or_broken at (record_at bytes.now at (kind_number kind)) }
+    ensures value { result ≡ or_broken at (record_at bytes.now at (kind_number kind)) }
+    ensures within { IfOk result (λ c. Lies bytes.now at c) }
 {
     let broken = Refusal::PlanBroken(at);
     let left = bytes.len().saturating_sub(at);
@@ -90,7 +92,8 @@ fn record_at(bytes: &[u8], at: usize, kind: Kind) -> Result<Content, Refusal>
 
 // The same of a kind whose content has a fixed length. Refusal: PlanBroken also where it has another.
 fn fixed_record_at(bytes: &[u8], at: usize, kind: Kind, len: usize) -> Result<Content, Refusal>
-    ensures { result ≡ or_broken at (fixed_record_at bytes.now at (kind_number kind) len) }
+    ensures value { result ≡ or_broken at (fixed_record_at bytes.now at (kind_number kind) len) }
+    ensures within { IfOk result (λ c. (c.len ≡ len) × Lies bytes.now at c) }
 {
     let content = record_at(bytes, at, kind)?;
     if content.len != len {
@@ -101,7 +104,8 @@ fn fixed_record_at(bytes: &[u8], at: usize, kind: Kind, len: usize) -> Result<Co
 
 // How many queries stand one after another from an offset, up to the most that a plan has.
 fn count_queries(bytes: &[u8], first: usize) -> usize
-    ensures { result ≡ count_from bytes.now 64 first }
+    ensures value { result ≡ count_from bytes.now 64 first }
+    ensures few { result ≤ 64 }
 {
     let mut at = first;
     for count in 0..MOST_QUERIES {

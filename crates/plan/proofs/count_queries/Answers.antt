@@ -3,11 +3,11 @@ use native.Mathlib.Omega.{arith}
 use Rattle.plan.proofs.Counting.{counting_full, counting_stops, counting_goes_on}
 use Rattle.plan.proofs.count_queries.Goals as goal
 
-pub returns-in_default : goal.returns-in_default
-returns-in_default c = counting_stops _ _ _ _ c.loop-count.invariant (omega arith) c.in_default.ensures
+pub returns-in_default-clause-value : goal.returns-in_default-clause-value
+returns-in_default-clause-value c = counting_stops _ _ _ _ c.loop-count.invariant (omega arith) c.in_default.ensures.value
 
 pub loop-count-preserved : goal.loop-count-preserved
-loop-count-preserved c = counting_goes_on _ _ _ _ c.loop-count.invariant (omega arith) _ c.in-Ok.ensures
+loop-count-preserved c = counting_goes_on _ _ _ _ c.loop-count.invariant (omega arith) _ c.in-Ok.ensures.value
 
-pub returns : goal.returns
-returns c = counting_full _ _ _ _ c.loop-count.invariant (omega arith)
+pub returns-clause-value : goal.returns-clause-value
+returns-clause-value c = counting_full _ _ _ _ c.loop-count.invariant (omega arith)

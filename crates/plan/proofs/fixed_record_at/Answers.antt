@@ -3,13 +3,13 @@ use Rattle.std.proofs.lemmas.Result.{err_from_is_err_and}
 use Rattle.plan.proofs.Ways.{fixed_not_read, other_length, fixed_read}
 use Rattle.plan.proofs.fixed_record_at.Goals as goal
 
-pub returns-in_err-content : goal.returns-in_err-content
-returns-in_err-content c =
+pub returns-in_err-content-clause-value : goal.returns-in_err-content-clause-value
+returns-in_err-content-clause-value c =
     let p = err_from_is_err_and c.from_residual.result c.from_residual.ensures.1 in
-    rw (p.1, p.2) (fixed_not_read _ _ _ _ c.in_err-content.ensures)
+    rw (p.1, p.2) (fixed_not_read _ _ _ _ c.in_err-content.ensures.value)
 
-pub returns-then-content-len : goal.returns-then-content-len
-returns-then-content-len c = other_length _ _ _ _ _ c.in_ok-content.ensures c.if-content-len.true
+pub returns-then-content-len-clause-value : goal.returns-then-content-len-clause-value
+returns-then-content-len-clause-value c = other_length _ _ _ _ _ c.in_ok-content.ensures.value c.if-content-len.true
 
-pub returns : goal.returns
-returns c = fixed_read _ _ _ _ _ c.in_ok-content.ensures c.if-content-len.false
+pub returns-clause-value : goal.returns-clause-value
+returns-clause-value c = fixed_read _ _ _ _ _ c.in_ok-content.ensures.value c.if-content-len.false

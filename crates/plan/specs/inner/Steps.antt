@@ -1,6 +1,6 @@
 -- What the reader's inner functions answer, step by step. Nothing that the reader promises is stated with these: they
 -- are tied to sound and broken plans by laws.
-use Rattle.std.specs.Prelude.{Bool, true, false, List, ℕ, zero, suc, ◌+◌, ◌*◌, length, drop, ltb, leb, eqb, Option, Some, None, ok_or, Result, Ok}
+use Rattle.std.specs.Prelude.{◌≡◌, ◌≤◌, Bool, true, false, List, ℕ, zero, suc, ◌+◌, ◌*◌, length, drop, ltb, leb, eqb, Option, Some, None, ok_or, Result, Ok}
 use Rattle.answers.specs.declared.Refusal.TheVariants as refusal
 use Rattle.answers.specs.declared.Refusal.{Refusal}
 use Rattle.answers.specs.Bools.{pick}
@@ -21,6 +21,12 @@ kind_number kinds.Query = 4
 -- where the content of a record at an offset lies, and the next record
 abbrev pub content_at : ℕ → ℕ → Content
 content_at at n = record { at = at + 4; len = n; next = at + 4 + n }
+
+-- a content that begins behind the header of a record at an offset lies within the bytes
+pub record Lies (bytes : List ℕ) (at : ℕ) (c : Content) : Type 0 where
+  pub begins_at : c.at ≡ at + 4
+  pub next_at : c.next ≡ c.at + c.len
+  pub within : c.next ≤ length bytes
 
 -- the record of a kind that begins the rest, which begins at an offset
 unfoldable pub record_in : List ℕ → ℕ → ℕ → Option Content
