@@ -112,24 +112,15 @@ impl Walk<'_> {
         self.in_width(cell, heading)
     }
 
-    // The lowest heading whose step fits the table; none at the goal. A straight one and a diagonal one at each turn.
-    // It must call `fits_step` twice a turn: with one call the compiler inlines `lead_of`, does not unroll the loop, and
-    // copies the table of headings at each turn, which makes a long route slower by half or more. Time it after any
-    // change here.
+    // The lowest heading whose step fits the table; none at the goal.
     fn next_heading(&self, cell: usize) -> Option<Heading>
         requires { cell < cells (floor_map self.now.floor) }
         ensures { taken result ≡ next (lead_of (floor_map self.now.floor)) self.now.table.now numbered.at cell }
     {
-        for turn in 0..4 {
-            let straight = Heading { number: 2 * turn };
-            if self.fits_step(cell, straight) {
-                return Some(straight);
-            }
-            let diagonal = Heading {
-                number: 2 * turn + 1,
-            };
-            if self.fits_step(cell, diagonal) {
-                return Some(diagonal);
+        for number in 0..8 {
+            let heading = Heading { number };
+            if self.fits_step(cell, heading) {
+                return Some(heading);
             }
         }
         None
