@@ -14,9 +14,6 @@ use Rattle.route_walker.specs.inner.Walkers.{Run, done, more, cost, fits, fits_l
 pub cost_straight : (h : ℕ) → h % 2 ≡ 0 → 65536 ≡ cost h
 cost_straight h e = rw e
 
-pub cost_diagonal : (h : ℕ) → (h % 2 ≡ 0 → ⊥) → 1 ≡ cost h
-cost_diagonal h n = let e : h % 2 ≡ 1 = omega arith in rw e
-
 pub cost_pos : (h : ℕ) → 0 < cost h
 cost_pos h = omega (arith, one_step (h % 2))
 
@@ -26,9 +23,6 @@ module _ (test : ℕ → Bool) (at : ℕ → ℕ) (i n : ℕ) (inv : seek test a
   seek_first h =
       let e : 8 - i ≡ suc (8 - (i + 1)) = omega arith in
       rw (e, add-one i)
-
-  pub seek_none : 8 ≤ i → 8 ≡ n
-  seek_none h = let e : 8 - i ≡ 0 = omega arith in rw e at inv
 
   module _ (h : i < 8) (r : Bool) (f : r ≡ test (at i)) where
     pub seek_found : r ≡ true → at i ≡ n
@@ -127,3 +121,6 @@ module _ (lead : ℕ → ℕ → Option ℕ) (table : List ℕ) where
 
     pub run_exists : (x : ℕ) → (hs : List ℕ) × (l : Length) × Run lead table o.at x hs l
     run_exists x = ends (get_or table x 0) x (le_refl (get_or table x 0))
+
+-- what a search does at a heading
+pub ruleset seeking = (seek_found, seek_goes)
