@@ -66,6 +66,7 @@ fn one_more(length: Length, heading: Heading) -> Length
 
 impl Walk<'_> {
     // Where a heading leads from a cell, counted a row and a column further, so that it is a whole number.
+    #[tactic(auto, using(crate::proofs::Past::near))]
     fn past_step(&self, cell: usize, heading: Heading) -> usize
         requires { cell < cells (floor_map self.now.floor) }
         ensures { (result ≡ past self.now.floor.width cell heading.number) × (result ≤ 16642) }
@@ -90,6 +91,7 @@ impl Walk<'_> {
     }
 
     // Whether the heading leads from the cell to a column of the floor, not past an end of the row.
+    #[tactic(auto, using(steps::proofs::Headings::changes_of))]
     fn in_width(&self, cell: usize, heading: Heading) -> bool
         ensures { InWidth self.now.floor.width cell heading.number result }
     {
@@ -99,6 +101,7 @@ impl Walk<'_> {
 
     // Whether the step is permitted and the numbers of its ends differ by it. The numbers are compared first: they
     // seldom do; and where they differ by a straight step, both ends are open.
+    #[tactic(auto, using(crate::proofs::Past::fitting))]
     fn fits_step(&self, cell: usize, heading: Heading) -> bool
         requires { cell < cells (floor_map self.now.floor) }
         ensures { result ≡ fits (lead_of (floor_map self.now.floor)) self.now.table.now cell heading.number }
@@ -112,24 +115,16 @@ impl Walk<'_> {
         self.in_width(cell, heading)
     }
 
-    // The lowest heading whose step fits the table; none at the goal. A straight one and a diagonal one at each turn.
-    // It must call `fits_step` twice a turn: with one call the compiler inlines `lead_of`, does not unroll the loop, and
-    // copies the table of headings at each turn, which makes a long route slower by half or more. Time it after any
-    // change here.
+    // The lowest heading whose step fits the table; none at the goal.
+    #[tactic(auto, using(crate::proofs::Searching::seeking), unfolding(crate::specs::inner::Walkers::next))]
     fn next_heading(&self, cell: usize) -> Option<Heading>
         requires { cell < cells (floor_map self.now.floor) }
         ensures { taken result ≡ next (lead_of (floor_map self.now.floor)) self.now.table.now numbered.at cell }
     {
-        for turn in 0..4 {
-            let straight = Heading { number: 2 * turn };
-            if self.fits_step(cell, straight) {
-                return Some(straight);
-            }
-            let diagonal = Heading {
-                number: 2 * turn + 1,
-            };
-            if self.fits_step(cell, diagonal) {
-                return Some(diagonal);
+        for number in 0..8 {
+            let heading = Heading { number };
+            if self.fits_step(cell, heading) {
+                return Some(heading);
             }
         }
         None
