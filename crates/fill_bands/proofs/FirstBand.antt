@@ -60,7 +60,7 @@ module _ (x q : List ℕ) (l : Loaded x q) where
         let e = are.are i n in
         record { free = omega arith; after = omega arith; near = omega arith }
 
-    module _ (x' q' : List ℕ) (t : ℕ) (o : GoalsDone goals x q x' q' t) where
+    module _ (x' q' : List ℕ) (t : ℕ) (o : GoalsDone goals 0 x q x' q' t) where
       -- below that band's end only the goal's places are reached
       first : (z : ℕ) → 0 < at x' z → at x' z < 2 * span → at x z ≡ goal_number
       first z p b = by (dec_le (2 * span) (at x z))

@@ -36,7 +36,7 @@ module _ (floor : List ℕ) (mid fresh tail limit : ℕ) (x q : List ℕ) (g : B
     waited = g.waited;
   }
 
-  module _ (x' q' : List ℕ) (top t : ℕ) (l : PassLeft mid fresh tail limit x q x' q' top t) where
+  module _ (x' q' : List ℕ) (top t : ℕ) (l : PassLeft mid fresh limit top tail x q x' q' t) where
     d : PassDone (the floor x tail limit) mid top x q x' q' t
     d = l.keeps w refl pass_ready
 

@@ -92,11 +92,8 @@ module _ (w : Band) (mid top t : ℕ) (x₀ q₀ : List ℕ) (r : StepsReady w x
 module _ (w : Band) (x q : List ℕ) (mid fresh t : ℕ) (r : PassReady w x q mid fresh t) where
   pub places : Places x q fresh t
   places = record {
-    narrow = r.going.room.narrow;
     order = r.order.1;
-    fits = omega (arith, r.going.room);
-    cells = λ k m n. let a = inside w x q t r.going (get_or q k 0) (r.cells k (omega (arith, r.order)) n).reached.free in
-        record { few = r.going.room.few; cell = omega (arith, a.high) };
+    cells = λ k m n. let a = inside w x q t r.going (get_or q k 0) (r.cells k (omega (arith, r.order)) n).reached.free in omega (arith, a.high);
   }
 
   module _ (q' : List ℕ) (top : ℕ) (p : Parted x w.limit mid t q q' top) (size : length q' ≡ length q) where
@@ -175,7 +172,7 @@ module _ (mid fresh t limit : ℕ) (x q q' : List ℕ) (top : ℕ) (p : Parted x
     ready = steps_ready b.band x q mid fresh t b.ready q' top (parted b.band b.ends b.ready) size;
   }
 
-  pub pass_left : (x' q'' : List ℕ) (t' : ℕ) → StepsLeft mid top t x q' x' q'' t' → PassLeft mid fresh t limit x q x' q'' top t'
+  pub pass_left : (x' q'' : List ℕ) (t' : ℕ) → StepsLeft mid top t x q' x' q'' t' → PassLeft mid fresh limit top t x q x' q'' t'
   pass_left x' q'' t' l = record {
     order = p.order.1;
     keeps = λ w e r. let u = parted w e r in

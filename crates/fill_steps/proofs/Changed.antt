@@ -34,12 +34,18 @@ room_offer x q t a b le r = record {
         let e : at x a ≡ 0 = get_or-eq_default x 0 k in
         omega (arith, length-set q t a, r.enough, ap waiting (set_out x a b k))
 
+-- a lower number leaves the room that there is
+pub room_lower : (x q : List ℕ) (t a b : ℕ) → b ≤ at x a → QueueRoom x q t → QueueRoom (set x a b) q t
+room_lower x q t a b le r =
+    let o = room_offer x q t a b le r in
+    record { few = o.few; narrow = r.narrow; enough = omega (arith, length-set q t a, o.enough) }
+
 -- a place that was lowered was offered the number, if the queue's end moves on where the cell was not reached and now
 -- is
-pub lowered_made : (a c t : ℕ) (x q x' q' : List ℕ) (v t' : ℕ) → QueueRoom x q t → Lowered a c t x q x' q' v
-    → t' ≡ t + (v / unreached - min c v / unreached) → OfferMade a c t x q x' q' t'
-lowered_made a c t x q x' q' v t' r l e =
-    let end = e ∙ ap (λ (k : ℕ). t + (k / unreached - min c k / unreached)) l.before in
+pub lowered_made : (a c v t : ℕ) (x q x' q' : List ℕ) (t' t'' : ℕ) → QueueRoom x q t → Lowered a c v t x q x' q' t'
+    → t'' ≡ t' + (v / unreached - min c v / unreached) → OfferMade a c t x q x' q' t''
+lowered_made a c v t x q x' q' t' t'' r l e =
+    let end : t'' ≡ t + (at x a / unreached - min c (at x a) / unreached) = rw (← l.before, ← l.end) e in
     record {
       cells = l.cells;
       queue = l.queue;
