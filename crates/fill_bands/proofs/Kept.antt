@@ -1,10 +1,5 @@
 -- What the passes keep.
-use mathlib.Core.Path.{◌≡◌}
-use mathlib.Core.Logic.{◌⊎◌}
-use mathlib.Core.List.{List}
-use Prim.Native.Nat.{ℕ, ◌+◌, ◌-◌, ◌*◌, ◌≤◌, ◌<◌}
-use native.Mathlib.Omega.{arith}
-use lib.ListN.{get_or}
+use Rattle.std.proofs.Common.{◌≡◌, ◌⊎◌, List, ℕ, ◌+◌, ◌-◌, ◌*◌, ◌≤◌, ◌<◌, arith, get_or}
 use Rattle.fill_steps.specs.inner.Work.{unreached, span, goal_number, at}
 use Rattle.fill_steps.specs.inner.Band.{Band, Support, Listed, Reached, Underway}
 use Rattle.fill_bands.specs.inner.Pass.{Due}

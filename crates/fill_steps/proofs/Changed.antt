@@ -1,6 +1,9 @@
 -- A work array with one place changed: how many cells wait, and the room in the queue.
-use Rattle.std.proofs.Common.{◌≡◌, ℕ, zero, suc, ◌+◌, ◌-◌, ◌/◌, ◌<◌, ◌≤◌, min, List, [], ◌∷◌, length, set, refl, ap, ◌∙◌, arith, length-set}
+use Rattle.std.proofs.Common.{◌≡◌, ℕ, zero, suc, ◌+◌, ◌-◌, ◌/◌, ◌<◌, ◌≤◌, min, List, [], ◌∷◌, length, set, refl, ap, ◌∙◌, arith, length-set, Bool, true, false, IsTrue, ◌↔◌, ◌*◌}
+use Rattle.std.proofs.lemmas.Bool.Decides.{nat_tests}
+use mir.Val.{bool_byte}
 use native.Mathlib.Decide.{dec_le}
+use lib.Dec.{leb}
 use lib.ListN.{get_or-eq_default}
 use lib.Seq.{set_out}
 use Rattle.fill_steps.specs.inner.Work.{unreached, at, waiting, QueueRoom}
@@ -52,6 +55,20 @@ lowered_made a c v t x q x' q' t' t'' r l e =
       end = end;
       room = rw (l.cells, l.queue, end) (room_offer x q t a (min c (at x a)) (omega arith) r);
     }
+
+-- how far the queue's end moves on
+pub new_counts : (b : Bool) (r v a : ℕ) → v < 2 * unreached → a ≤ v → r ≡ bool_byte b → (IsTrue b ↔ (unreached ≤ v) × (a < unreached))
+    → r ≡ v / unreached - a / unreached
+new_counts true r v a k l e f = let g = f.0 refl in omega arith
+new_counts false r v a k l e f = by (dec_le unreached v) (dec_le unreached a)
+  where
+    by : Dec (unreached ≤ v) → Dec (unreached ≤ a) → r ≡ v / unreached - a / unreached
+    by (yes m) (no n) = cc (f.1 (m, omega arith))
+    by (no m) d = omega arith
+    by (yes m) (yes n) = omega arith
+
+pub all_count : (v : ℕ) → v < 2 * unreached → bool_byte (leb unreached v) ≡ v / unreached
+all_count v k = grind (arith, nat_tests)
 
 -- an offer leaves the array as large as it was
 pub made_size : (a c t : ℕ) (x q x' q' : List ℕ) (t' : ℕ) → OfferMade a c t x q x' q' t' → length x' ≡ length x

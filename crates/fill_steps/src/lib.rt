@@ -8,7 +8,7 @@
 // step adds; the lesser number stays.
 #![tactic(auto)]
 
-ghost use Rattle.std.specs.Prelude.{◌≡◌, ◌+◌, ◌-◌, ◌/◌, ◌<◌, ◌≤◌, min, length};
+ghost use Rattle.std.specs.Prelude.{◌≡◌, ◌+◌, ◌<◌, ◌≤◌, ◌↔◌, IsTrue, length};
 ghost use Rattle.fill_steps.specs.inner.Work.{unreached, stride, largest, highest, stepped, target, QueueRoom};
 ghost use Rattle.fill_steps.specs.inner.Taken.{MaskRead, PastSides};
 
@@ -36,15 +36,17 @@ const HALF: u32 = 8192;
 // How far apart the rows of the work array are: 128 cells and the border.
 pub const STRIDE: usize = 130;
 
-// 1 for a cell that was not reached and now is, by its number before and after.
-fn newly(before: u32, after: u32) -> usize
+// Whether a cell that was not reached now is, by its number before and after: whether their first digits differ. With
+// two comparisons in the place of the `xor` a fill takes a sixth more instructions.
+fn is_new(before: u32, after: u32) -> bool
     requires { after ≤ before }
-    ensures { (result ≡ before / unreached - after / unreached) × (result ≤ 1) }
+    ensures { IsTrue result ↔ (unreached ≤ before) × (after < unreached) }
 {
-    ((before ^ after) / UNREACHED) as usize
+    UNREACHED <= before ^ after
 }
 
 // Where a heading leads from a place.
+#[tactic(auto, using(steps::proofs::Headings::read_of))]
 fn place_of(from: usize, heading: usize) -> usize
     requires stride_bound { (stride + 1 ≤ from) × (from < largest) }
     requires heading_bound { heading < 8 }
@@ -55,7 +57,7 @@ fn place_of(from: usize, heading: usize) -> usize
 }
 
 // The mask of a cell with this number: UNREACHED if the cell is blocked, else 0. Only 0, less one, wraps to what is not
-// below UNREACHED.
+// below UNREACHED. With bools in the place of masks a fill takes a tenth more instructions.
 fn mask_of(number: u32) -> u32
     ensures { MaskRead number result }
 {
@@ -70,6 +72,7 @@ fn past(number: u32, side: u32, other: u32) -> u32
 }
 
 // What a diagonal step makes of a number. Whether it is late is one bit.
+#[tactic(auto, unfolding(crate::specs::inner::Work::late_of, crate::specs::inner::Work::stepped))]
 fn diagonal_of(number: u32) -> u32
     requires { number < highest }
     ensures { result ≡ stepped 1 number }
@@ -81,7 +84,8 @@ fn diagonal_of(number: u32) -> u32
     }
 }
 
-// The work array and the queue of the cells that were reached, which ends at the tail. It has room for all that wait.
+// The wave that spreads over the work array: the cells' numbers, and the queue of the cells that were reached, which ends
+// at the tail and has room for all that wait.
 #[derive(Drop)]
 pub struct Wave<'a> {
     pub work: &'a mut [u32],
@@ -90,7 +94,7 @@ pub struct Wave<'a> {
     pub ghost room: { QueueRoom work.now queue.now tail },
 }
 
-impl<'a> Wave<'a> {
+impl Wave<'_> {
     ghost use Rattle.fill_steps.specs.inner.Work.{at, OffBorder};
     ghost use Rattle.fill_steps.specs.inner.Taken.{Lowered, OfferMade, SideStep, SideAfter, TakenLeft};
     ghost use Rattle.fill_steps.specs.inner.Waves.{Moved};
@@ -113,7 +117,7 @@ impl<'a> Wave<'a> {
         ensures { Moved self.old self.new (OfferMade place number) }
     {
         let before = self.lower(place, number);
-        self.tail += newly(before, number.min(before));
+        self.tail += usize::from(is_new(before, number.min(before)));
     }
 
     // A straight step. Its number always counts, so a cell that was not reached now is. A blocked cell stays blocked
@@ -125,7 +129,7 @@ impl<'a> Wave<'a> {
         ensures { Moved self.old self.new (SideStep from heading number result) }
     {
         let before = self.lower(place_of(from, heading), number);
-        self.tail += (before / UNREACHED) as usize;
+        self.tail += usize::from(UNREACHED <= before);
         mask_of(before)
     }
 

@@ -1,7 +1,7 @@
 -- `fill_bands::ready_first` meets its contract. The invariant: the cells before i are parted.
-use Rattle.std.proofs.Common.{◌≡◌, ◌<◌, length, length-set, arith}
+use Rattle.std.proofs.Common.{◌<◌, length, length-set, arith}
 use Rattle.std.proofs.lemmas.List.Edits.{swap_is, swapped_from_swap}
-use Rattle.fill_bands.proofs.Parting.{counted, parted_step}
+use Rattle.fill_bands.proofs.Parting.{counted, parted_step, parted_all}
 use Rattle.fill_bands.proofs.ready_first.Goals as goal
 
 pub loop-i-preserved : goal.loop-i-preserved
@@ -20,9 +20,8 @@ loop-i-preserved c =
 pub returns : goal.returns
 returns c =
     let k = c.loop-i.invariant in
-    let e : c.loop-i.i ≡ c.args.wave.now.tail = omega (arith, c.loop-i.auto.i-end (omega arith)) in
     record {
       work = k.work;
       queue = k.queue;
-      did = record { cells = k.did.0; size = k.did.1; end = k.did.2; parted = rw e at k.did.3 };
+      did = record { cells = k.did.0; size = k.did.1; end = k.did.2; parted = parted_all _ _ _ _ _ _ _ _ k.did.3 (c.loop-i.auto.i-end (omega arith)) c.loop-i-test.false };
     }

@@ -1,6 +1,5 @@
 -- `fill_bands::ready_steps` meets its contract. The invariant: the cells before i have taken their steps, in every band
 -- whose cells they are.
-use Rattle.std.proofs.Common.{arith}
 use Rattle.fill_bands.proofs.OnePass.{steps_more}
 use Rattle.fill_bands.proofs.ready_steps.Goals as goal
 

@@ -4,7 +4,7 @@ use Rattle.std.specs.Prelude.{◌≡◌, ℕ, ◌+◌, ◌-◌, ◌/◌, ◌<◌
 use Rattle.fill_steps.specs.inner.Work.{unreached, span, stepped, highest, at, target, WorkStep, QueueRoom}
 use Rattle.fill_steps.specs.inner.Band.{Band, Underway, Falls}
 
--- place a, which had the number v, has c if that is less, and stands behind the queue
+-- place a, which had the number v, has c if that is less, and stands behind the queue, whose end stays
 pub record Lowered (a c v t : ℕ) (x q x' q' : List ℕ) (t' : ℕ) : Type 0 where
   pub cells : x' ≡ slice_set x a (min c (at x a))
   pub queue : q' ≡ slice_set q t a
@@ -34,7 +34,6 @@ pub record SideStep (p h cand r t : ℕ) (x q x' q' : List ℕ) (t' : ℕ) : Typ
 
 -- the straight step after the diagonal heading h was taken; after 7, the last one, it is north, which was taken first
 pub record SideAfter (p h cand north r t : ℕ) (x q x' q' : List ℕ) (t' : ℕ) : Type 0 where
-  pub room : QueueRoom x' q' t'
   pub size : length x' ≡ length x
   pub step : h < 7 → SideStep p (h + 1) cand r t x q x' q' t'
   pub last : h ≡ 7 → (x' ≡ x) × (q' ≡ q) × (t' ≡ t) × (r ≡ north)
@@ -60,5 +59,4 @@ pub record This (x : List ℕ) (limit p : ℕ) : Type 0 where
 -- every step out of p was taken, in every band that ends where numbers have room and whose cell it is
 pub record TakenLeft (p t : ℕ) (x q x' q' : List ℕ) (t' : ℕ) : Type 0 where
   pub size : length x' ≡ length x
-  pub room : QueueRoom x' q' t'
   pub keeps : (w : Band) → Underway w x q t → w.limit ≤ highest → This x w.limit p → Offered w (λ h. h < 8) p x q x' q' t'

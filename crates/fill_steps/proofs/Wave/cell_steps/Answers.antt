@@ -1,9 +1,9 @@
 -- `fill_steps::cell_steps` meets its contract. The invariant: the steps with the headings before this one were taken, and
 -- the mask that is kept is that of the side cell behind.
-use Rattle.std.proofs.Common.{◌≡◌, ℕ, zero, suc, ◌+◌, ◌*◌, ◌<◌, List, [], ◌∷◌, get_or, refl, arith}
+use Rattle.std.proofs.Common.{◌≡◌, ℕ, zero, suc, ◌+◌, ◌*◌, ◌<◌, [], ◌∷◌, get_or, refl, arith}
 use Rattle.fill_steps.proofs.Changed.{made_size}
 use Rattle.fill_steps.proofs.InWork.{in_work}
-use Rattle.fill_steps.proofs.ManySteps.{turns_none, turns_more, turns_all}
+use Rattle.fill_steps.proofs.ManySteps.{headings_more, headings_all}
 use Rattle.fill_steps.proofs.Wave.cell_steps.Goals as goal
 
 -- the diagonal headings
@@ -21,15 +21,12 @@ offer-requires c =
     let n = made_size _ _ _ _ _ _ _ _ c.side_step-north.ensures.did.offer in
     omega (arith, rw e at c.place_of.ensures, l, n, c.loop-heading.invariant.did.size, c.side_after-other.ensures.did.size)
 
-pub loop-heading-init : goal.loop-heading-init
-loop-heading-init c = record { work = refl; queue = refl; did = turns_none _ _ _ _ _ _ c.side_step-north.new.self.room }
-
 pub loop-heading-preserved : goal.loop-heading-preserved
 loop-heading-preserved c = record {
   work = cc;
   queue = cc;
   did =
-      turns_more _ _ _ _ _ _ _ _ _ _ _ c.loop-heading.invariant.did c.loop-heading-test.true _ (diagonal_at _ c.loop-heading-test.true) _ refl _ _ _ _
+      headings_more _ _ _ _ _ _ _ _ _ _ _ c.loop-heading.invariant.did c.loop-heading-test.true _ (diagonal_at _ c.loop-heading-test.true) _ refl _ _ _ _
       c.side_after-other.ensures.did _ _ _ _ _ _ c.diagonal_of-diagonal.ensures c.past.ensures c.place_of.ensures c.offer.ensures.did;
 }
 
@@ -38,5 +35,5 @@ returns c = record {
   work = cc;
   queue = cc;
   did =
-      turns_all _ _ _ _ _ _ _ _ _ _ _ _ _ _ _ refl refl c.side_step-north.ensures.did c.loop-heading.invariant.did c.loop-heading-test.false;
+      headings_all _ _ _ _ _ _ _ _ _ _ _ _ _ _ _ refl refl c.side_step-north.ensures.did c.loop-heading.invariant.did c.loop-heading-test.false;
 }
