@@ -12,6 +12,8 @@ ghost use Rattle.std.specs.Prelude.{◌≡◌, ◌+◌, ◌<◌, ◌≤◌, ◌�
 ghost use Rattle.fill_steps.specs.inner.Work.{unreached, stride, largest, highest, stepped, target, QueueRoom};
 ghost use Rattle.fill_steps.specs.inner.Taken.{MaskRead, PastSides};
 
+use steps::Heading;
+
 // The number of an open cell that is not reached.
 pub const UNREACHED: u32 = 2147483648;
 
@@ -47,12 +49,11 @@ fn is_new(before: u32, after: u32) -> bool
 
 // Where a heading leads from a place.
 #[tactic(auto, using(steps::proofs::Headings::read_of))]
-fn place_of(from: usize, heading: usize) -> usize
-    requires stride_bound { (stride + 1 ≤ from) × (from < largest) }
-    requires heading_bound { heading < 8 }
-    ensures { result ≡ target from heading }
+fn place_of(from: usize, heading: Heading) -> usize
+    requires { (stride + 1 ≤ from) × (from < largest) }
+    ensures { result ≡ target from heading.number }
 {
-    let change = steps::Heading { number: heading }.change();
+    let change = heading.change();
     from + change.row * STRIDE + change.column - (STRIDE + 1)
 }
 
@@ -123,10 +124,10 @@ impl Wave<'_> {
     // A straight step. Its number always counts, so a cell that was not reached now is. A blocked cell stays blocked
     // and an open one open, so that its mask, which is given back, is read once, for the diagonal steps on both sides
     // of it.
-    fn side_step(&mut self, from: usize, heading: usize, number: u32) -> u32
+    fn side_step(&mut self, from: usize, heading: Heading, number: u32) -> u32
         requires off_border { OffBorder self.old.work.now from }
-        requires heading_bound { (heading < 8) × (number < unreached) }
-        ensures { Moved self.old self.new (SideStep from heading number result) }
+        requires counts { number < unreached }
+        ensures { Moved self.old self.new (SideStep from heading.number number result) }
     {
         let before = self.lower(place_of(from, heading), number);
         self.tail += usize::from(UNREACHED <= before);
@@ -134,15 +135,18 @@ impl Wave<'_> {
     }
 
     // The straight step after a diagonal heading. After the last one that is north, which was the first step taken.
-    fn side_after(&mut self, from: usize, heading: usize, number: u32, north: u32) -> u32
+    fn side_after(&mut self, from: usize, heading: Heading, number: u32, north: u32) -> u32
         requires off_border { OffBorder self.old.work.now from }
-        requires heading_bound { (heading < 8) × (number < unreached) }
-        ensures { Moved self.old self.new (SideAfter from heading number north result) }
+        requires counts { number < unreached }
+        ensures { Moved self.old self.new (SideAfter from heading.number number north result) }
     {
-        if heading == 7 {
+        if heading.number == 7 {
             return north;
         }
-        self.side_step(from, heading + 1, number)
+        let next = Heading {
+            number: heading.number + 1,
+        };
+        self.side_step(from, next, number)
     }
 
     // All steps out of a cell: north, and then each diagonal one after the straight one behind it.
@@ -154,9 +158,10 @@ impl Wave<'_> {
         let number = self.work[from];
         let straight = number + STEP_STRAIGHT;
         let diagonal = diagonal_of(number);
-        let north = self.side_step(from, 0, straight);
+        let north = self.side_step(from, Heading { number: 0 }, straight);
         let mut side = north;
-        for heading in [1, 3, 5, 7] {
+        for diagonally in [1, 3, 5, 7] {
+            let heading = Heading { number: diagonally };
             let other = self.side_after(from, heading, straight, north);
             self.offer(place_of(from, heading), past(diagonal, side, other));
             side = other;

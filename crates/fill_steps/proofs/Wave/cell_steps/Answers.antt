@@ -16,17 +16,17 @@ diagonal_at (suc (suc (suc (suc i)))) l = absurd (omega arith)
 
 pub offer-requires : goal.offer-requires
 offer-requires c =
-    let e = diagonal_at _ c.loop-heading-test.true in
-    let l = in_work c.args.self.now.work.now c.args.from (2 * c.loop-heading.heading-index + 1) (omega arith) c.requires.off_border in
+    let e = diagonal_at _ c.loop-diagonally-test.true in
+    let l = in_work c.args.self.now.work.now c.args.from (2 * c.loop-diagonally.diagonally-index + 1) (omega arith) c.requires.off_border in
     let n = made_size _ _ _ _ _ _ _ _ c.side_step-north.ensures.did.offer in
-    omega (arith, rw e at c.place_of.ensures, l, n, c.loop-heading.invariant.did.size, c.side_after-other.ensures.did.size)
+    omega (arith, rw e at c.place_of.ensures, l, n, c.loop-diagonally.invariant.did.size, c.side_after-other.ensures.did.size)
 
-pub loop-heading-preserved : goal.loop-heading-preserved
-loop-heading-preserved c = record {
+pub loop-diagonally-preserved : goal.loop-diagonally-preserved
+loop-diagonally-preserved c = record {
   work = cc;
   queue = cc;
   did =
-      headings_more _ _ _ _ _ _ _ _ _ _ _ c.loop-heading.invariant.did c.loop-heading-test.true _ (diagonal_at _ c.loop-heading-test.true) _ refl _ _ _ _
+      headings_more _ _ _ _ _ _ _ _ _ _ _ c.loop-diagonally.invariant.did c.loop-diagonally-test.true _ (diagonal_at _ c.loop-diagonally-test.true) _ refl _ _ _ _
       c.side_after-other.ensures.did _ _ _ _ _ _ c.diagonal_of-diagonal.ensures c.past.ensures c.place_of.ensures c.offer.ensures.did;
 }
 
@@ -35,5 +35,5 @@ returns c = record {
   work = cc;
   queue = cc;
   did =
-      headings_all _ _ _ _ _ _ _ _ _ _ _ _ _ _ _ refl refl c.side_step-north.ensures.did c.loop-heading.invariant.did c.loop-heading-test.false;
+      headings_all _ _ _ _ _ _ _ _ _ _ _ _ _ _ _ refl refl c.side_step-north.ensures.did c.loop-diagonally.invariant.did c.loop-diagonally-test.false;
 }

@@ -4,5 +4,5 @@ use Rattle.fill_steps.specs.inner.Waves.{Moved}
 use Rattle.fill_steps.proofs.Kept.{Turns}
 use Rattle.fill_steps.proofs.Wave.cell_steps.Given as goal
 
-abbrev pub invariant-loop-heading : goal.invariant-loop-heading
-invariant-loop-heading l = Moved l.initial.self l.self (Turns l.from l.number l.north l.side l.heading-index)
+abbrev pub invariant-loop-diagonally : goal.invariant-loop-diagonally
+invariant-loop-diagonally l = Moved l.initial.self l.self (Turns l.from l.number l.north l.side l.diagonally-index)
