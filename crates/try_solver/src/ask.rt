@@ -37,18 +37,15 @@ impl Kind {
 
     // Whether a kind of call has a start.
     pub fn has_start(self) -> bool {
-        match self {
-            Kind::Rooms | Kind::FoundRoutes | Kind::ReadRoutes => true,
-            _ => false,
-        }
+        matches!(self, Kind::Rooms | Kind::FoundRoutes | Kind::ReadRoutes)
     }
 
     // Whether a kind of call has a goal and a table.
     pub fn has_goal(self) -> bool {
-        match self {
-            Kind::Tables | Kind::Checks | Kind::FoundRoutes | Kind::ReadRoutes => true,
-            _ => false,
-        }
+        matches!(
+            self,
+            Kind::Tables | Kind::Checks | Kind::FoundRoutes | Kind::ReadRoutes
+        )
     }
 }
 
@@ -90,6 +87,11 @@ impl Sides {
     // How many bytes a row of the map takes.
     pub fn bytes_across(self) -> usize {
         self.width.div_ceil(8)
+    }
+
+    // Which byte of the map has the bit of a spot.
+    pub fn byte_of(self, spot: Spot) -> usize {
+        times(spot.row, self.bytes_across()) + spot.column / 8
     }
 
     // How many bytes the map takes; 0 if it has more than 130 rows or bytes to a row.

@@ -5,7 +5,7 @@
 // since p² - 2q² is a whole number and not 0: more than 2^-16, where the sizes' error is less than 2^-26. So sizes order lengths exactly.
 ghost use Rattle.std.specs.Prelude.{◌≤◌, ◌<◌};
 
-use crate::ask::{Call, Length, Refused, Said};
+use crate::ask::{Length, Refused, Said};
 
 // The mark of a table.
 pub const MARK: u32 = u32::MAX;
@@ -85,10 +85,10 @@ pub fn entry_of(length: Option<Steps>) -> u32 {
 }
 
 // Comparing two lengths: 1 if the first is shorter, else 0; 12.
-pub fn compare(call: Call) -> Said {
-    let length = Steps::of_length(call.length)?;
-    let other = Steps::of_length(call.other)?;
-    Ok([usize::from(length.is_shorter(other)), 0, 0, 0])
+pub fn compare(length: Length, other: Length) -> Said {
+    let steps = Steps::of_length(length)?;
+    let others = Steps::of_length(other)?;
+    Ok([usize::from(steps.is_shorter(others)), 0, 0, 0])
 }
 
 // The whole number nearest to m√2: the root of 8m² is 2m√2 rounded down, and half of the next number, rounded down, is the nearest.
@@ -99,13 +99,13 @@ fn nearest(m: u64) -> u64
     ((8 * (m * m)).isqrt() + 1) / 2
 }
 
-// The distance spoken: the centimetres; 12, 13.
-pub fn distance(call: Call) -> Said {
-    let size = u64::from(call.size);
-    let steps = Steps::of_length(call.length)?;
+// The distance spoken of a length in cells of a size: the centimetres; 12, 13.
+pub fn distance(length: Length, size: u32) -> Said {
+    let steps = Steps::of_length(length)?;
     if size < 1 || 1000 < size {
         return Err(Refused::numbered(13));
     }
+    let size = u64::from(size);
     let centimetres = size * u64::from(steps.straight) + nearest(size * u64::from(steps.diagonal));
     Ok([centimetres as usize, 0, 0, 0])
 }
