@@ -12,8 +12,9 @@ pub enum Pattern {
     Walls,
     // By the binary digits of a number, row by row.
     Digits(u64),
-    // 103 wide and 71 high, a fork: from (0, 50) to (102, 49) lead a way of 143 straight steps, through lanes of one cell, and a way of 99
-    // diagonal steps and 3 straight ones, through lanes of three. The first is shorter, by less than a hundredth of a step.
+    // 103 wide and 71 high, a fork: from (0, 50) to (102, 49) lead a way of 143 straight steps, through lanes of one
+    // cell, and a way of 99 diagonal steps and 3 straight ones, through lanes of three. The first is shorter, by less
+    // than a hundredth of a step.
     Fork,
 }
 
@@ -61,7 +62,8 @@ fn block(map: &mut [u8; MAP], at: usize, column: usize) {
     }
 }
 
-// Sets the last bit of one of so many bytes of the map, for one seed in four: past the width, where the byte ends a row that ends before it.
+// Sets the last bit of one of so many bytes of the map, for one seed in four: past the width, where the byte ends a row
+// that ends before it.
 pub fn pad_some(map: &mut [u8; MAP], bytes: usize, seed: Random) {
     if seed.below(4) == 0 {
         block(map, seed.next().pick(bytes), 7);

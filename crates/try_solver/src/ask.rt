@@ -8,8 +8,8 @@ pub const ENTRIES: usize = 16400;
 
 pub const ROOM: usize = 33000;
 
-// The kinds of calls: accepting a floor, the room around a cell, comparing two lengths, speaking a distance, filling a table, checking one,
-// finding a route, and reading one from a table.
+// The kinds of calls: accepting a floor, the room around a cell, comparing two lengths, speaking a distance, filling a
+// table, checking one, finding a route, and reading one from a table.
 #[derive(Clone, Copy, PartialEq, Eq)]
 pub enum Kind {
     Floors,
@@ -116,9 +116,9 @@ pub struct Length {
     pub diagonal: u32,
 }
 
-// A call: its kind and its numbers, of which a kind takes some. It is made over so many bytes of the map, entries of a table, and bytes of room
-// for legs. A room is asked for around the start. A distance is that of the length, in cells of the size; a comparison is of the length with
-// the other one.
+// A call: its kind and its numbers, of which a kind takes some. It is made over so many bytes of the map, entries of a
+// table, and bytes of room for legs. A room is asked for around the start. A distance is that of the length, in cells
+// of the size; a comparison is of the length with the other one.
 #[derive(Clone, Copy)]
 pub struct Call {
     pub kind: Kind,

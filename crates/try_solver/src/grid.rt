@@ -1,5 +1,5 @@
-// A floor laid out on a grid of 130 places to a row, with blocked places all around it. A cell and its eight neighbours are nine places, three
-// to a row: the first of them is the cell's corner, the middle one is the cell.
+// A floor laid out on a grid of 130 places to a row, with blocked places all around it. A cell and its eight neighbours
+// are nine places, three to a row: the first of them is the cell's corner, the middle one is the cell.
 ghost use Rattle.std.specs.Prelude.{◌+◌, ◌*◌, ◌≤◌, ◌<◌};
 
 use crate::ask::{MAP, Sides, Spot};
@@ -244,8 +244,8 @@ impl Grid {
         self.open.at(cell.place())
     }
 
-    // Whether a step leads on from an open cell: its head is open, and so are the two places beside a diagonal one, in the cell's own row and in
-    // its own column. Of a straight one these are its head and the cell.
+    // Whether a step leads on from an open cell: its head is open, and so are the two places beside a diagonal one, in
+    // the cell's own row and in its own column. Of a straight one these are its head and the cell.
     pub fn leads(&self, cell: Cell, heading: Heading) -> bool {
         self.open.at(cell.head(heading))
             && self.open.at(cell.place_at(heading.right(), 1))

@@ -1,4 +1,5 @@
-// The room around a cell: up and down from the cell, then by whole columns to the left and to the right, as far as all is open.
+// The room around a cell: up and down from the cell, then by whole columns to the left and to the right, as far as all
+// is open.
 use crate::ask::{Spot, VALUES};
 use crate::grid::{Cell, Grid};
 

@@ -1,7 +1,8 @@
-// A second solver for the trials: what docs/REFERENCE.md asks of tables, routes, rooms, lengths and refusals, found again in plain other ways.
+// A second solver for the trials: what docs/REFERENCE.md asks of tables, routes, rooms, lengths and refusals, found
+// again in plain other ways.
 //
-// It shares no code, no table and no definition with the library, and it says nothing of its answers but that they come: every function is
-// proved to end, with no index out of range and no number that wraps.
+// It shares no code, no table and no definition with the library, and it says nothing of its answers but that they
+// come: every function is proved to end, with no index out of range and no number that wraps.
 #![tactic(auto)]
 
 pub mod ask;
@@ -18,8 +19,8 @@ use grid::{Cell, Grid};
 use reach::Lengths;
 use trail::{Legs, Ways};
 
-// The solver: the table and the legs that calls leave, of which the table may be written between calls, and its own memory: the floor, the
-// lengths from the start and those to the goal, and the legs as they come.
+// The solver: the table and the legs that calls leave, of which the table may be written between calls, and its own
+// memory: the floor, the lengths from the start and those to the goal, and the legs as they come.
 #[derive(Drop)]
 pub struct Solver {
     pub table: [u32; ENTRIES],
@@ -56,8 +57,8 @@ impl Solver {
         }
     }
 
-    // What a call on a floor says that is not refused by 1 to 8. Finding a route leaves the table filled when it is refused, too; reading one only
-    // reads the table.
+    // What a call on a floor says that is not refused by 1 to 8. Finding a route leaves the table filled when it is
+    // refused, too; reading one only reads the table.
     fn on_floor(&mut self, call: Call) -> Said {
         let goal = Cell::at(call.goal);
         match call.kind {

@@ -61,7 +61,8 @@ impl Lengths {
         changed
     }
 
-    // Finds the lengths to a cell, which are those from it, by as many sweeps as a way can have steps, and one that finds nothing to change.
+    // Finds the lengths to a cell, which are those from it, by as many sweeps as a way can have steps, and one that
+    // finds nothing to change.
     pub fn spread(&mut self, grid: &Grid, cell: Cell) {
         self.clear(grid.floor, None);
         self.set(cell.place(), Some(Steps::ZERO));

@@ -1,8 +1,9 @@
 // Lengths, their sizes, their entries in a table, and the distance spoken.
 //
-// The size of a length is straight + diagonal × √2 in parts of 2^-40, with √2 taken as 1,554,944,255,988 of them, which is less than
-// half a part off. Two different lengths with parts up to 16,384, p and q their differences, are at least 1 / (|p| + |q| × √2) apart,
-// since p² - 2q² is a whole number and not 0: more than 2^-16, where the sizes' error is less than 2^-26. So sizes order lengths exactly.
+// The size of a length is straight + diagonal × √2 in parts of 2^-40, with √2 taken as 1,554,944,255,988 of them, which
+// is less than half a part off. Two different lengths with parts up to 16,384, p and q their differences, are at least
+// 1 / (|p| + |q| × √2) apart, since p² - 2q² is a whole number and not 0: more than 2^-16, where the sizes' error is
+// less than 2^-26. So sizes order lengths exactly.
 ghost use Rattle.std.specs.Prelude.{◌≤◌, ◌<◌};
 
 use crate::ask::{Length, Refused, Said};
@@ -50,11 +51,6 @@ impl Steps {
         Steps::new(entry / 65536, entry % 65536)
     }
 
-    // The steps of a length; 12.
-    fn of_length(length: Length) -> Result<Steps, Refused> {
-        Steps::new(length.straight, length.diagonal).ok_or(Refused::numbered(12))
-    }
-
     // The steps as a table's entry.
     pub fn entry(self) -> u32 {
         u32::from(self.straight) * 65536 + u32::from(self.diagonal)
@@ -79,6 +75,15 @@ impl Steps {
     }
 }
 
+// The steps of a length; 12.
+impl TryFrom<Length> for Steps {
+    type Error = Refused;
+
+    fn try_from(length: Length) -> Result<Steps, Refused> {
+        Steps::new(length.straight, length.diagonal).ok_or(Refused::numbered(12))
+    }
+}
+
 // The entry of a length; where there is none, the mark.
 pub fn entry_of(length: Option<Steps>) -> u32 {
     length.map_or(MARK, |steps| steps.entry())
@@ -86,12 +91,13 @@ pub fn entry_of(length: Option<Steps>) -> u32 {
 
 // Comparing two lengths: 1 if the first is shorter, else 0; 12.
 pub fn compare(length: Length, other: Length) -> Said {
-    let steps = Steps::of_length(length)?;
-    let others = Steps::of_length(other)?;
+    let steps = Steps::try_from(length)?;
+    let others = Steps::try_from(other)?;
     Ok([usize::from(steps.is_shorter(others)), 0, 0, 0])
 }
 
-// The whole number nearest to m√2: the root of 8m² is 2m√2 rounded down, and half of the next number, rounded down, is the nearest.
+// The whole number nearest to m√2: the root of 8m² is 2m√2 rounded down, and half of the next number, rounded down, is
+// the nearest.
 fn nearest(m: u64) -> u64
     requires { m ≤ 65535000 }
     ensures { result ≤ 2147483648 }
@@ -101,7 +107,7 @@ fn nearest(m: u64) -> u64
 
 // The distance spoken of a length in cells of a size: the centimetres; 12, 13.
 pub fn distance(length: Length, size: u32) -> Said {
-    let steps = Steps::of_length(length)?;
+    let steps = Steps::try_from(length)?;
     if size < 1 || 1000 < size {
         return Err(Refused::numbered(13));
     }

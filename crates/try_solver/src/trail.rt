@@ -1,5 +1,6 @@
-// The first shortest way. A step lies on a shortest way exactly if the length from the start to its foot, the step, and the length from its
-// head to the goal make the whole length; at each cell the headings are tried in their order, and the legs are written as they come.
+// The first shortest way. A step lies on a shortest way exactly if the length from the start to its foot, the step, and
+// the length from its head to the goal make the whole length; at each cell the headings are tried in their order, and
+// the legs are written as they come.
 ghost use Rattle.std.specs.Prelude.{◌≡◌, ◌≤◌, length};
 
 use crate::ask::ROOM;
@@ -10,7 +11,8 @@ use crate::sizes::Steps;
 // How many legs there is room for: half as many as a buffer has bytes.
 const LEGS: usize = ROOM / 2;
 
-// The legs of a way as they come, each of two bytes: the number of its heading, and how many steps it has.
+// The legs of a way as they come, each of two bytes: the number of its heading, and how many steps it has. There is no
+// heap, so room for the most legs is kept, with the count of those that are written.
 #[derive(Drop)]
 pub struct Legs {
     legs: [[u8; 2]; LEGS],
