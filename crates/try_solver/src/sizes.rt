@@ -96,13 +96,25 @@ pub fn compare(length: Length, other: Length) -> Said {
     Ok([usize::from(steps.is_shorter(others)), 0, 0, 0])
 }
 
+// The whole root of a number, rounded down, by its binary digits: another way than `isqrt`, which the library takes.
+fn root_of(square: u64) -> u32 {
+    let mut root: u32 = 0;
+    for digit in 0..32u32 {
+        let next = root | 1 << (31 - digit);
+        if u64::from(next) * u64::from(next) <= square {
+            root = next;
+        }
+    }
+    root
+}
+
 // The whole number nearest to m√2: the root of 8m² is 2m√2 rounded down, and half of the next number, rounded down, is
 // the nearest.
 fn nearest(m: u64) -> u64
     requires { m ≤ 65535000 }
     ensures { result ≤ 2147483648 }
 {
-    ((8 * (m * m)).isqrt() + 1) / 2
+    (u64::from(root_of(8 * (m * m))) + 1) / 2
 }
 
 // The distance spoken of a length in cells of a size: the centimetres; 12, 13.
