@@ -51,6 +51,7 @@ impl Lengths {
     }
 
     // Sweeps over the floor from the first row to the last, or from the last to the first: whether anything changed.
+    // Tried as one sweep there and back, with no flag: it took a quarter longer.
     fn sweep(&mut self, grid: &Grid, back: bool) -> bool {
         let height = grid.floor.sides.height;
         let mut changed = false;
