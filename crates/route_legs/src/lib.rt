@@ -53,8 +53,8 @@ fn put_leg(legs: &mut [u8], at: usize, heading: Heading, count: usize)
 }
 
 // The legs ahead, written from the front; bytes after the last leg keep their values. They are counted, and their
-// length is summed, as in `count_legs`: the two loops differ in one line, and an iterator of the legs was no plainer, as
-// it is a struct more, whose walk stays the same in each contract.
+// length is summed, as in `count_legs`. One loop for both was no plainer: an iterator of the legs is a struct more, and
+// each contract would say that its walk stays the same.
 fn write_legs(walk: &Walk, start: Walker, legs: &mut [u8]) -> Way
     requires stands { Stands (floor_map walk.now.floor) walk.now.table.now numbered start }
     requires leg_room { LegRoom (floor_map walk.now.floor) walk.now.table.now numbered start legs.old }
