@@ -5,7 +5,8 @@ use mathlib.Core.Bool.{Bool, true, false, true≢false}
 use mathlib.Core.List.{List, [], ◌∷◌}
 use Prim.Native.Nat.{ℕ}
 use native.Mathlib.Omega.{arith}
-use Rattle.std.specs.Prelude.{Result, Ok, Err}
+use Rattle.std.specs.Prelude.{Result, Ok, Err, IsErr, IsErrAnd}
+use Rattle.std.proofs.lemmas.Result.{err_from_is_err_and}
 use Rattle.answers.specs.declared.Refusal.{Refusal}
 use Rattle.answers.specs.Refusing.{Tested, Given, done, refused, refuse, first_refusal, outcome, Answered, gives}
 
@@ -97,6 +98,29 @@ module _ {K : Type 0} {D : Given → Type 0} where
     keeps = λ f p. absurd (not_passed (sym p ∙ e));
     does = λ p. d;
   }
+
+-- How a call that tests with `?` is shown to have answered: at each test it goes on, or hands the refusal up, and after
+-- the last it does its work.
+module _ {K : Type 0} {D : Given → Type 0} where
+  -- this test refuses
+  pub ends_here : (t : Tested) (ts : List Tested) (f : Refusal) → Err f ≡ t → K → Answered (first_refusal (t ∷ ts)) K D (refused f)
+  unfolding first_refusal
+  ends_here t ts f e k = refused_given _ f (rw (← e)) k
+
+  -- this test is passed, and later ones settle the answer
+  pub goes_on : (t : Tested) (ts : List Tested) (g : Given) → Ok tt ≡ t → Answered (first_refusal ts) K D g → Answered (first_refusal (t ∷ ts)) K D g
+  unfolding first_refusal
+  goes_on t ts g e a = rw (← e) a
+
+  -- no test is left
+  pub comes_through : (g : Given) → D g → Answered (first_refusal []) K D g
+  unfolding first_refusal
+  comes_through g d = work_done _ g refl d
+
+  -- a `?` hands the refusal up
+  pub handed_up : {A : Type 0} (values : A → List ℕ) (r : Result A Refusal) (f : Refusal) (t : Tested)
+      → IsErr r × IsErrAnd r (λ e. e ≡ f) → Answered t K D (refused f) → Answered t K D (gives values r)
+  handed_up values r f t e a = let p = err_from_is_err_and r e.1 in rw (p.1, p.2) a
 
 -- a call whose work has one answer, and leaves the buffers in one state (Same), has one answer and leaves them in one
 -- state

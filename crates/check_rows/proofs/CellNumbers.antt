@@ -1,6 +1,6 @@
 -- The number of a cell: which entry it stands for, that open cells stand below the wall and blocked ones not, and that
 -- the lesser of two entries has the lesser number.
-use mathlib.Core.Path.{◌≡◌, refl, ap₂, sym, subst, ◌∙◌}
+use mathlib.Core.Path.{◌≡◌, refl, ap, ap₂, sym, subst, ◌∙◌}
 use mathlib.Core.Bool.{Bool, true, false, not, true≢false, false≢true}
 use mathlib.Core.List.{List}
 use Prim.Native.Nat.{ℕ, ◌+◌, ◌-◌, ◌/◌, ◌%◌, min, ◌≤◌, ◌<◌}
@@ -17,11 +17,9 @@ use Rattle.lengths.proofs.Order.{◌⊏◌, ⊏-⊑, shorter_yes, shorter_no}
 use Rattle.lengths.specs.inner.Keys.{key}
 use Rattle.lengths.proofs.Keys.{order_key}
 use Rattle.lengths.proofs.Tested.{small_parts, parts_small}
-use Rattle.floor.specs.inner.Ready.{Fitting}
-use Rattle.floor.specs.Floor.{Map, blocked, open?, cell_of}
+use Rattle.floor.specs.Floor.{Map, blocked, open?, cell_of, cells}
 use Rattle.steps.specs.inner.Leading.{open_past}
 use Rattle.answers.proofs.Bools.{both_true}
-use Rattle.steps.proofs.OnMap.{few_cells}
 use Rattle.table_theory.specs.Entry.{Entry, mark, long, parts_of, malformed, read}
 use Rattle.table_theory.specs.inner.Best.{lesser}
 use Rattle.table_theory.proofs.Lists.{get_or_any}
@@ -108,6 +106,10 @@ unfolding open_past open? on_floor number_at
 number_placed m t c r =
     placed (ltb 0 c) (ltb 0 r) (ltb (c - 1) m.width) (ltb (r - 1) m.height) (blocked m (c - 1) (r - 1)) (get_or t (cell_of m (c - 1) (r - 1)) 4294967295)
 
+-- no number is above that of a blocked cell
+pub number_low : (m : Map) (t : List ℕ) (c r : ℕ) → number_at m t c r ≤ wall + 1
+number_low m t c r = (number_placed m t c r).stands.low
+
 -- the number of a cell on the floor
 pub number_on : (m : Map) (t : List ℕ) (c r : ℕ) → c < m.width → r < m.height
     → number_at m t (c + 1) (r + 1) ≡ number_of (blocked m c r) (get_or t (cell_of m c r) 4294967295)
@@ -117,18 +119,12 @@ number_on m t c r p q =
     let r' : r + 1 - 1 ≡ r = omega arith in
     rw (lt-ltb 0 (c + 1) (omega arith), lt-ltb 0 (r + 1) (omega arith), c', r', lt-ltb c m.width p, lt-ltb r m.height q)
 
--- a cell of the floor has an entry, and there are not many
-pub in_table : (m : Map) (entries c r : ℕ) → Fitting m entries → c < m.width → r < m.height → (cell_of m c r < entries) × (entries ≤ 16384)
-in_table m entries c r f p q = (
-  subst (λ (k : ℕ). cell_of m c r < k) (sym f.size) (digits_lt q p),
-  subst (λ (k : ℕ). k ≤ 16384) (sym f.size) (few_cells m f.sound),
-)
-
 -- the number that is made of the bit and the entry that are read
-pub number_read : (m : Map) (t : List ℕ) (c r n : ℕ) (b : Bool) → Fitting m (length t) → c < m.width → r < m.height → b ≡ blocked m c r
-    → n ≡ number_of b (get_or t (cell_of m c r) 0) → n ≡ number_at m t (c + 1) (r + 1)
-number_read m t c r n b fits p q e f =
-    f ∙ ap₂ number_of e (get_or_any t (cell_of m c r) 0 4294967295 (in_table m (length t) c r fits p q).0) ∙ sym (number_on m t c r p q)
+pub number_read : (m : Map) (t : List ℕ) (c r x : ℕ) (b : Bool) → length t ≡ cells m → c < m.width → r < m.height → b ≡ blocked m c r
+    → x ≡ cell_of m c r → number_of b (get_or t x 0) ≡ number_at m t (c + 1) (r + 1)
+number_read m t c r x b size p q e f =
+    let within : x < length t = omega (arith, digits_lt q p) in
+    ap₂ number_of e (get_or_any t x 0 4294967295 within ∙ ap (λ (z : ℕ). get_or t z 4294967295) f) ∙ sym (number_on m t c r p q)
 
 -- a cell on the floor is open where it is not blocked
 pub open_on : (m : Map) (c r : ℕ) → c < m.width → r < m.height → open_past m (c + 1) (r + 1) ≡ not (blocked m c r)

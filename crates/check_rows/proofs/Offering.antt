@@ -7,12 +7,11 @@ use mathlib.Core.List.{List}
 use Prim.Native.Nat.{ℕ, zero, suc, ◌+◌, ◌%◌, min}
 use native.Mathlib.Omega.{arith}
 use lib.ListN.{get_or}
+use Rattle.std.specs.Prelude.{Option, Some, None}
 use Rattle.answers.specs.Bools.{pick, both}
 use Rattle.lengths.specs.declared.Length.{Length}
 use Rattle.lengths.specs.Order.{steps}
 use Rattle.lengths.specs.inner.Keys.{key}
-use Rattle.steps.specs.declared.Lead.{Lead}
-use Rattle.steps.specs.declared.Lead.TheVariants.{To, Nowhere}
 use Rattle.steps.specs.Heading.{weight}
 use Rattle.steps.specs.Step.{one_step}
 use Rattle.table_theory.specs.Entry.{Entry, read, entry_at}
@@ -42,7 +41,7 @@ further_small v s one = by (kind v)
 -- a step, with the cell that it leads to and the two beside it
 pub offer_key :
     (T : ℕ → Entry) (s : Length) → steps s ≡ 1 → (to side other : Bool) (y v n a b : ℕ) → T y ≡ read v → NumberPlaced to v n → ByWall side a → ByWall other b
-    → min none (n + key s + shut_of a + shut_of b) ≡ key_of (offer T s (pick (both to (both side other)) (To y) Nowhere))
+    → min none (n + key s + shut_of a + shut_of b) ≡ key_of (offer T s (pick (both to (both side other)) (Some y) None))
 offer_key T s one false side other y v n a b e p q r = omega (arith, p.stands.above refl)
 offer_key T s one true false other y v n a b e p q r = omega (arith, q.above refl)
 offer_key T s one true true false y v n a b e p q r = omega (arith, r.above refl)
@@ -50,11 +49,11 @@ offer_key T s one true true true y v n a b e p q r =
     let f : min none (n + key s + shut_of a + shut_of b) ≡ min none (open_number v + key s) = omega (arith, p.same refl, q.below refl, r.below refl) in
     f ∙ further_key v s one ∙ ap (λ (z : Entry). key_of (further z s)) (sym e)
 
-offer_small : (t : List ℕ) (s : Length) → steps s ≡ 1 → (l : Lead) → SmallEntry (offer (entry_at t) s l)
-offer_small t s one Nowhere = tt
-offer_small t s one (To y) = further_small (get_or t y 4294967295) s one
+offer_small : (t : List ℕ) (s : Length) → steps s ≡ 1 → (l : Option ℕ) → SmallEntry (offer (entry_at t) s l)
+offer_small t s one None = tt
+offer_small t s one (Some y) = further_small (get_or t y 4294967295) s one
 
-module _ (lead : ℕ → ℕ → Lead) (t : List ℕ) (x : ℕ) where
+module _ (lead : ℕ → ℕ → Option ℕ) (t : List ℕ) (x : ℕ) where
   pub best_small : (k : ℕ) → SmallEntry (best lead (entry_at t) x k)
   best_small zero = tt
   best_small (suc k) = by (lesser_is (best lead (entry_at t) x k) here).2 (best_small k)

@@ -1,59 +1,62 @@
 -- One turn more of the loops over the headings and over the columns of a row.
 use mathlib.Core.Path.{◌≡◌, refl, ap, ap₂, sym, ◌∙◌}
-use mathlib.Core.Bool.{Bool, true, false}
+use mathlib.Core.Bool.{Bool, true, false, true≢false}
 use mathlib.Core.List.{List}
 use Prim.Native.Nat.{ℕ, zero, suc, ◌+◌, min, ◌≤◌, ◌<◌}
 use native.Mathlib.Omega.{arith}
 use native.Mathlib.Numerals.{add-one}
 use native.Mathlib.Decide.{ℕ_discrete}
-use lib.Dec.{eqb}
-use lib.ListN.{get_or}
 use Rattle.answers.specs.Bools.{pick}
+use Rattle.std.specs.Prelude.{Option, Some, None, MatchOption}
 use Rattle.table_theory.specs.Made.{Judged}
-use Rattle.check_rows.specs.inner.Level.{wall}
-use Rattle.check_rows.specs.inner.Window.{offer_in, least_in, start_of, differs_in, differs_at, differing}
+use Rattle.table_theory.specs.inner.First.{FirstWrong}
+use Rattle.check_rows.specs.inner.Window.{offer_in, least_in, differs_at, differing}
 
-pub least_none : (x : List ℕ) (p start : ℕ) → start ≡ least_in x p start 0
+pub least_more : (x : List ℕ) (c start k : ℕ) → least_in x c start (k + 1) ≡ min (least_in x c start k) (offer_in x c k)
 unfolding least_in
-least_none x p start = refl
+least_more x c start k = ap (least_in x c start) (add-one k)
 
-pub least_more : (x : List ℕ) (p start k a b r : ℕ) → a ≡ least_in x p start k → b ≡ offer_in x p k → r ≡ min a b → r ≡ least_in x p start (k + 1)
-unfolding least_in
-least_more x p start k a b r e f g = g ∙ ap₂ min e f ∙ ap (least_in x p start) (sym (add-one k))
-
-differs_low : (x : List ℕ) (p start : ℕ) → differs_in x p start ≤ 1
-unfolding differs_in
-differs_low x p start = by (eqb (get_or x p 0) (least_in x p start 8)) (eqb (get_or x p 0) wall)
-  where
-    by : (a b : Bool) → pick {A = ℕ} a 0 (pick b 0 1) ≤ 1
-    by true b = omega arith
-    by false true = omega arith
-    by false false = omega arith
-
-pub differing_none : (x : List ℕ) (goal : ℕ) → 0 ≡ differing x goal 0
+pub differing_more : (x : List ℕ) (goal first c : ℕ) → differing x goal first (c + 1) ≡ differing x goal first c + pick (differs_at x goal first c) 1 0
 unfolding differing
-differing_none x goal = refl
-
-pub differing_more : (x : List ℕ) (goal c a b : ℕ) → a ≡ differing x goal c → b ≡ differs_at x goal c → a + b ≡ differing x goal (c + 1)
-unfolding differing
-differing_more x goal c a b e f = ap₂ ◌+◌ e f ∙ ap (differing x goal) (sym (add-one c))
+differing_more x goal first c = ap (differing x goal first) (add-one c)
 
 -- no more cells differ than there are
-pub differing_low : (x : List ℕ) (goal c : ℕ) → differing x goal c ≤ c
+pub differing_low : (x : List ℕ) (goal first c : ℕ) → differing x goal first c ≤ c
 unfolding differing
-differing_low x goal zero = omega arith
-differing_low x goal (suc c) = omega (arith, differing_low x goal c, differs_low x (131 + c) (start_of goal c))
+differing_low x goal first zero = omega arith
+differing_low x goal first (suc c) = by (differs_at x goal first c) (differing_low x goal first c)
+  where
+    by : (b : Bool) → differing x goal first c ≤ c → differing x goal first c + pick b 1 0 ≤ suc c
+    by true h = omega arith
+    by false h = omega arith
 
 -- where none differs, each is right
-pub differing_zero : (x : List ℕ) (goal n : ℕ) → differing x goal n ≡ 0 → (c : ℕ) → c < n → differs_at x goal c ≡ 0
+pub differing_zero : (x : List ℕ) (goal first n : ℕ) → differing x goal first n ≡ 0 → (c : ℕ) → c < n → differs_at x goal first c ≡ false
 unfolding differing
-differing_zero x goal zero e c h = absurd (omega arith)
-differing_zero x goal (suc n) e c h = by (ℕ_discrete c n) (differing_zero x goal n (omega arith))
+differing_zero x goal first zero e c h = absurd (omega arith)
+differing_zero x goal first (suc n) e c h =
+    by (ℕ_discrete c n) (differing_zero x goal first n (omega arith)) (here (differs_at x goal first n) (omega arith))
   where
-    by : Dec (c ≡ n) → ((c : ℕ) → c < n → differs_at x goal c ≡ 0) → differs_at x goal c ≡ 0
-    by (yes k) all = ap (differs_at x goal) k ∙ (omega arith)
-    by (no k) all = all c (omega arith)
+    here : (b : Bool) → pick {A = ℕ} b 1 0 ≡ 0 → b ≡ false
+    here true k = absurd (omega arith)
+    here false k = refl
+
+    by : Dec (c ≡ n) → ((c : ℕ) → c < n → differs_at x goal first c ≡ false) → differs_at x goal first n ≡ false → differs_at x goal first c ≡ false
+    by (yes k) all last = ap (differs_at x goal first) k ∙ last
+    by (no k) all last = all c (omega arith)
 
 -- all are right
 pub all_judged : (Right : ℕ → Type 0) (n : ℕ) → ((y : ℕ) → y < n → Right y) → Judged Right n n
 all_judged Right n all = record { within = omega arith; before = all; wrong = λ h. absurd (omega arith) }
+
+-- the first of the numbers below n that passes a test
+pub found_first : (test : ℕ → Bool) (n : ℕ) (r : Option ℕ)
+    → MatchOption r ((k : ℕ) → 0 ≤ k → k < n → test k ≡ false)
+      (λ i. (0 ≤ i) × (i < n) × (test i ≡ true) × ((k : ℕ) → 0 ≤ k → k < i → test k ≡ false))
+    → FirstWrong (λ k. test k ≡ false) n r
+found_first test n None all = all_judged (λ k. test k ≡ false) n (λ k h. all k (omega arith) h)
+found_first test n (Some i) f = (f.1, record {
+  within = omega arith;
+  before = λ k h. f.3 k (omega arith) h;
+  wrong = λ h e. true≢false (sym f.2 ∙ e);
+})

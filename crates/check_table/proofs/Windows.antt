@@ -6,17 +6,39 @@ use Prim.Native.Nat.{ℕ, suc, ◌+◌, ◌-◌, ◌*◌, ◌/◌, ◌%◌, ◌�
 use native.Mathlib.Omega.{arith}
 use native.Mathlib.Nat.{zero-add}
 use native.Mathlib.Decide.{dec_le, ℕ_discrete}
-use lib.ListN.{get_or, replicate, length-replicate, get_or-replicate}
+use lib.ListN.{get_or, length}
 use Rattle.floor.specs.Floor.{Map}
 use Rattle.check_rows.specs.inner.Level.{wall, number_at}
-use Rattle.check_rows.specs.inner.Window.{Window}
-use Rattle.check_table.specs.inner.Window.{Walled}
+use Rattle.check_rows.specs.inner.Window.{LowNumbers, Walled, Showing}
+use borrow.Rule.Slice.PartMut.{put_mid}
+use Rattle.std.proofs.Common.{rules}
+use Rattle.std.proofs.lemmas.List.{places}
 use Rattle.table_theory.specs.inner.Written.{Written}
 use Rattle.check_rows.proofs.CellNumbers.{west, north, east, number_off}
 
--- a window made of walls
-pub walls : (n : ℕ) → n ≡ 390 → Walled (replicate n wall)
-walls n e = record { size = length-replicate n wall ∙ e; walls = λ z h. get_or-replicate n z wall 0 (omega arith) }
+-- a part of a list that is written is written number after number
+pub part_written : (f : ℕ → ℕ) (from k width : ℕ) (x y : List ℕ) → k ≡ width → length y ≡ width → from + width ≤ length x
+    → ((i : ℕ) → i < length y → get_or y i 0 ≡ f i) → Written f from width x (put_mid from k x y)
+part_written f from k width x y e n room each = record {
+  size = search (rules, places);
+  inside = λ i h. search (rules, places);
+  outside = λ z h. by z h;
+}
+  where
+    by : (z : ℕ) → (z < from) ⊎ (from + width ≤ z) → get_or (put_mid from k x y) z 0 ≡ get_or x z 0
+    by z (inl p) = search (rules, places)
+    by z (inr p) = grind (arith, places)
+
+-- a window stays low where what is written is
+pub low_written : (f : ℕ → ℕ) (from count : ℕ) (x y : List ℕ) → ((i : ℕ) → f i ≤ wall + 1) → LowNumbers x → Written f from count x y → LowNumbers y
+low_written f from count x y low was w = record { low = λ z. by z (dec_le from z) (dec_le (suc z) (from + count)) }
+  where
+    by : (z : ℕ) → Dec (from ≤ z) → Dec (z < from + count) → get_or y z 0 ≤ wall + 1
+    by z (no p) q = omega (arith, w.outside z (inl (omega arith)), was.low z)
+    by z (yes p) (no q) = omega (arith, w.outside z (inr (omega arith)), was.low z)
+    by z (yes p) (yes q) =
+        let i : from + (z - from) ≡ z = omega arith in
+        omega (arith, ap (λ (n : ℕ). get_or y n 0) i, w.inside (z - from) (omega arith), low (z - from))
 
 module _ (m : Map) (t : List ℕ) where
   -- a place beside the floor
@@ -24,7 +46,7 @@ module _ (m : Map) (t : List ℕ) where
   beside c r (inl e) = number_off m t c r (west e)
   beside c r (inr e) = number_off m t c r (east e)
 
-  pub walled_window : (x : List ℕ) → Walled x → Window m t 0 1 x
+  pub walled_window : (x : List ℕ) → Walled x → Showing m t 0 1 x
   walled_window x w = record {
     size = w.size;
     numbers = λ z h k. let e : 0 + z / 130 ≡ 0 = omega arith in w.walls z h ∙ sym (number_off m t (z % 130) (0 + z / 130) (north e));
@@ -33,7 +55,7 @@ module _ (m : Map) (t : List ℕ) where
 
   -- one row more
   pub row_written : (row count from : ℕ) (x y : List ℕ) → from ≡ count * 130 + 1 → m.width ≤ 128
-      → Window m t row count x → Written (λ c. number_at m t (c + 1) (row + count)) from m.width x y → Window m t row (count + 1) y
+      → Showing m t row count x → Written (λ c. number_at m t (c + 1) (row + count)) from m.width x y → Showing m t row (count + 1) y
   row_written row count from x y e narrow w d = record { size = d.size ∙ w.size; numbers = numbers; border = border }
     where
       -- a place beside the floor is not written
@@ -61,7 +83,7 @@ module _ (m : Map) (t : List ℕ) where
               ap (λ (n : ℕ). get_or y n 0) i ∙ d.inside (z % 130 - 1) (omega arith) ∙ ap₂ (λ (u v : ℕ). number_at m t u (row + v)) c r
 
   -- one row down
-  pub moved_down : (row : ℕ) (x y : List ℕ) → Window m t row 3 x → Written (λ z. get_or x (z + 130) 0) 0 260 x y → Window m t (row + 1) 2 y
+  pub moved_down : (row : ℕ) (x y : List ℕ) → Showing m t row 3 x → Written (λ z. get_or x (z + 130) 0) 0 260 x y → Showing m t (row + 1) 2 y
   moved_down row x y w d = record { size = d.size ∙ w.size; numbers = numbers; border = λ z h o. border z h o (dec_le 260 z) }
     where
       numbers : (z : ℕ) → z < 390 → z < 2 * 130 → get_or y z 0 ≡ number_at m t (z % 130) (row + 1 + z / 130)

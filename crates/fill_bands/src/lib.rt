@@ -4,8 +4,9 @@
 // most one cell fewer than the floor.
 #![tactic(auto)]
 
+ghost use Rattle.std.specs.Prelude.{◌<◌, ◌↔◌, IsTrue};
 ghost use Rattle.fill_steps.specs.inner.Work.{at};
-ghost use Rattle.fill_bands.specs.inner.Pass.{Below, Place, Places, Parted, StepsBegun, StepsLeft, PassBegun, PassLeft};
+ghost use Rattle.fill_bands.specs.inner.Pass.{Place, Places, Parted, StepsBegun, StepsLeft, PassBegun, PassLeft};
 ghost use Rattle.fill_bands.specs.inner.Solved.{Loaded, Goals, GoalsDone, Solved};
 
 // The part of the queue that the next band has before it.
@@ -15,12 +16,12 @@ pub struct Part {
     pub tail: usize,
 }
 
-// 1 if a cell is ready, its number below the limit, else 0.
-fn ready(work: &[u32], cell: u32, limit: u32) -> usize
+// Whether a cell is ready: its number is below the limit.
+fn is_ready(work: &[u32], cell: u32, limit: u32) -> bool
     requires { Place work.now cell }
-    ensures { Below (at work.now cell) limit result }
+    ensures { IsTrue result ↔ (at work.now cell < limit) }
 {
-    if work[cell as usize] < limit { 1 } else { 0 }
+    work[cell as usize] < limit
 }
 
 // Brings the cells of queue[mid..tail] that are ready, below the limit, before those that wait. Gives where the first
@@ -34,14 +35,12 @@ fn ready_first(work: &[u32], queue: &mut [u32], mid: usize, tail: usize, limit: 
     if mid == tail {
         return mid;
     }
-    let mut top = mid + ready(work, queue[mid], limit);
-    let mut i = mid + 1;
-    while i < tail {
+    let mut top = mid + usize::from(is_ready(work, queue[mid], limit));
+    for i in mid + 1..tail {
         let cell = queue[i];
         queue[i] = queue[top];
         queue[top] = cell;
-        top += ready(work, cell, limit);
-        i += 1;
+        top += usize::from(is_ready(work, cell, limit));
     }
     top
 }
@@ -52,11 +51,9 @@ fn ready_steps(work: &mut [u32], queue: &mut [u32], mid: usize, top: usize, tail
     ensures { StepsLeft mid top tail work.old queue.old work.new queue.new result }
 {
     let mut end = tail;
-    let mut i = mid;
-    while i < top {
+    for i in mid..top {
         let from = queue[i] as usize;
         end = fill_steps::cell_steps(work, queue, end, from);
-        i += 1;
     }
     end
 }
@@ -92,11 +89,8 @@ fn goal_steps(work: &mut [u32], queue: &mut [u32], goals: &[u32]) -> usize
     ensures { GoalsDone goals.now work.old queue.old work.new queue.new result }
 {
     let mut end: usize = 0;
-    let mut i: usize = 0;
-    while i < goals.len() {
-        let from = goals[i] as usize;
-        end = fill_steps::cell_steps(work, queue, end, from);
-        i += 1;
+    for from in goals {
+        end = fill_steps::cell_steps(work, queue, end, *from as usize);
     }
     end
 }

@@ -1,7 +1,7 @@
 -- What the loops that load the map keep.
 use mathlib.Core.Path.{◌≡◌}
 use mathlib.Core.List.{List}
-use Prim.Native.Nat.{ℕ, ◌+◌, ◌%◌, ◌≤◌}
+use Prim.Native.Nat.{ℕ, ◌+◌, ◌≤◌}
 use lib.ListN.{length}
 use Rattle.floor.specs.Floor.{Map}
 use Rattle.fill_load.specs.inner.Load.{Prefix}
@@ -16,11 +16,6 @@ pub record CellsLoaded (m : Map) (x₀ : List ℕ) (c r : ℕ) (x : List ℕ) : 
 pub record BitsLoaded (m : Map) (x₀ : List ℕ) (c r count i : ℕ) (x : List ℕ) : Type 0 where
   pub few : i ≤ count
   pub cells : CellsLoaded m x₀ (c + i) r x
-
--- whole bytes of row r are loaded, up to column c
-pub record BytesLoaded (m : Map) (x₀ : List ℕ) (c r : ℕ) (x : List ℕ) : Type 0 where
-  pub aligned : c % 8 ≡ 0
-  pub cells : CellsLoaded m x₀ c r x
 
 -- the rows before r are loaded
 pub record RowsLoaded (m : Map) (x₀ : List ℕ) (r : ℕ) (x : List ℕ) : Type 0 where

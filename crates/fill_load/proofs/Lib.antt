@@ -1,3 +1,3 @@
 pub mod Kept
-pub mod Fours
+pub mod FourNumbers
 pub mod MapLoaded

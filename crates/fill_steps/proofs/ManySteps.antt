@@ -1,12 +1,12 @@
 -- Steps out of one cell, one after another: north, and then in each turn the straight step after a diagonal one and the
 -- diagonal one.
-use Rattle.std.proofs.Common.{◌≡◌, ℕ, ◌+◌, ◌%◌, ◌<◌, ◌≤◌, ◌≢◌, ◌⊎◌, List, sym, refl, ap, ◌∙◌, subst, inl, inr, arith}
+use Rattle.std.proofs.Common.{◌≡◌, ℕ, ◌+◌, ◌-◌, ◌*◌, ◌%◌, ◌<◌, ◌≤◌, ◌≢◌, ◌⊎◌, List, sym, refl, ap, ◌∙◌, subst, inl, inr, arith}
 use native.Mathlib.Decide.{ℕ_discrete}
 use Rattle.fill_steps.specs.inner.Work.{span, stepped, at, target, WorkStep, QueueRoom}
 use Rattle.fill_steps.specs.inner.Band.{Band, Falls}
 use Rattle.fill_steps.specs.inner.Taken.{OfferMade, Masks, SideStep, SideAfter, PastSides, Offered, TakenLeft}
 use Rattle.fill_steps.proofs.Changed.{made_size}
-use Rattle.fill_steps.proofs.Kept.{MayStep, NorthTaken, Headings}
+use Rattle.fill_steps.proofs.Kept.{MayStep, NorthTaken, Turns}
 use Rattle.fill_steps.proofs.Numbers.{like}
 use Rattle.fill_steps.proofs.OneStep.{OfferFits, inside, one_step, straight_fits}
 use Rattle.fill_steps.proofs.SideCells.{mask_read, diagonal_fits}
@@ -59,19 +59,17 @@ module _ (w : Band) (Old : ℕ → Type 0) (p t : ℕ) (x₀ q₀ x q : List ℕ
       by j k (no e) = inl (cover j k e)
 
 module _ (p v north t : ℕ) (x₀ q₀ : List ℕ) where
-  pub headings_none : QueueRoom x₀ q₀ t → Headings p v north t x₀ q₀ north 1 x₀ q₀ t
-  headings_none room = record {
-    inside = omega arith;
-    odd = refl;
+  pub turns_none : QueueRoom x₀ q₀ t → Turns p v north t x₀ q₀ north 0 x₀ q₀ t
+  turns_none room = record {
     size = refl;
     room = room;
     keeps = λ w o. record { going = o.ready.going; falls = falls_none w x₀ q₀; done = λ j z k s. absurd (omega (arith, k)) };
     behind = λ w o b. o.mask;
   }
 
-  -- a turn: the straight step after h, and then h
-  module _ (side h : ℕ) (x q : List ℕ) (t' : ℕ) (i : Headings p v north t x₀ q₀ side h x q t') (b : h < 8)
-      (straight : ℕ) (sum : straight ≡ v + span) (other : ℕ) (x' q' : List ℕ) (t'' : ℕ)
+  -- a turn with the diagonal heading h: the straight step after it, and then h itself
+  module _ (side n : ℕ) (x q : List ℕ) (t' : ℕ) (i : Turns p v north t x₀ q₀ side n x q t') (b : n < 4)
+      (h : ℕ) (odd : h ≡ 2 * n + 1) (straight : ℕ) (sum : straight ≡ v + span) (other : ℕ) (x' q' : List ℕ) (t'' : ℕ)
       (s : SideAfter p h straight t' north x q x' q' t'' other) where
     ahead : (w : Band) → NorthTaken w x₀ q₀ t p v north → Masks (at w.floor (target p ((h + 1) % 8))) other
     ahead w o = by (ℕ_discrete h 7)
@@ -85,12 +83,12 @@ module _ (p v north t : ℕ) (x₀ q₀ : List ℕ) where
 
     -- all headings to h + 1 but h
     abbrev Others : ℕ → Type 0
-    Others j = (0 < j) × (j < h + 2) × (j ≢ h)
+    Others j = (0 < j) × (j ≤ 2 * (n + 1)) × (j ≢ h)
 
     side_keeps : (w : Band) → NorthTaken w x₀ q₀ t p v north → Offered w Others p x₀ q₀ x' q' t''
     side_keeps w o = by (ℕ_discrete h 7) (i.keeps w o)
       where
-        by : Dec (h ≡ 7) → Offered w (λ j. (0 < j) × (j < h)) p x₀ q₀ x q t' → Offered w Others p x₀ q₀ x' q' t''
+        by : Dec (h ≡ 7) → Offered w (λ j. (0 < j) × (j ≤ 2 * n)) p x₀ q₀ x q t' → Offered w Others p x₀ q₀ x' q' t''
         by (yes e) a = let l = s.last e in
             subst (λ (u : List ℕ). Offered w Others p x₀ q₀ u q' t'') (sym l.0)
             (subst (λ (u : List ℕ). Offered w Others p x₀ q₀ x u t'') (sym l.1)
@@ -99,37 +97,36 @@ module _ (p v north t : ℕ) (x₀ q₀ : List ℕ) where
         by (no e) a =
             let r = ready w _ p t x₀ q₀ x q t' o.ready a in
             let m = same w _ p t x₀ q₀ x q t' o.ready a in
-            let known : h + 1 < 8 = omega (arith, i.odd) in
+            let known : h + 1 < 8 = omega arith in
             step_more w _ p t x₀ q₀ x q t' o.ready a Others (h + 1) straight x' q' t'' known (s.step (omega arith)).offer
-            (straight_fits w x q t' p (h + 1) straight r known (omega (arith, i.odd)) (omega (arith, o.number)))
-            (λ j k n. (k.0, omega (arith, k)))
+            (straight_fits w x q t' p (h + 1) straight r known (omega arith) (omega (arith, o.number)))
+            (λ j k d. (k.0, omega (arith, k)))
 
     module _ (cand c place : ℕ) (x'' q'' : List ℕ) (t''' : ℕ) (slant : cand ≡ stepped 1 v) (past : PastSides cand side other c)
         (to : place ≡ target p h) (made : OfferMade place c t'' x' q' x'' q'' t''') where
-      more_keeps : (w : Band) → NorthTaken w x₀ q₀ t p v north → Offered w (λ j. (0 < j) × (j < h + 2)) p x₀ q₀ x'' q'' t'''
+      more_keeps : (w : Band) → NorthTaken w x₀ q₀ t p v north → Offered w (λ j. (0 < j) × (j ≤ 2 * (n + 1))) p x₀ q₀ x'' q'' t'''
       more_keeps w o =
           let a = side_keeps w o in
           let e : v ≡ at x' p = sym (same w Others p t x₀ q₀ x' q' t'' o.ready a ∙ o.number) in
-          let cand-is : cand ≡ stepped h (at x' p) = slant ∙ ap (stepped 1) e ∙ like 1 h (at x' p) (sym i.odd) in
-          step_more w Others p t x₀ q₀ x' q' t'' o.ready a (λ j. (0 < j) × (j < h + 2)) h c x'' q'' t''' b
+          let cand-is : cand ≡ stepped h (at x' p) = slant ∙ ap (stepped 1) e ∙ like 1 h (at x' p) (omega arith) in
+          let behind : Masks (at w.floor (target p (h - 1))) side = subst (λ (k : ℕ). Masks (at w.floor (target p k)) side) (omega arith) (i.behind w o b) in
+          step_more w Others p t x₀ q₀ x' q' t'' o.ready a _ h c x'' q'' t''' (omega arith)
           (subst (λ (z : ℕ). OfferMade z c t'' x' q' x'' q'' t''') to made)
-          (diagonal_fits w x' q' t'' a.going p h cand c cand-is side other b i.odd (inside o.ready).low (i.behind w o b) (ahead w o) past)
-          (λ j k n. (k.0, k.1, n))
+          (diagonal_fits w x' q' t'' a.going p h cand c cand-is side other (omega arith) (omega arith) (inside o.ready).low behind (ahead w o) past)
+          (λ j k d. (k.0, k.1, d))
 
-      pub headings_more : Headings p v north t x₀ q₀ other (h + 2) x'' q'' t'''
-      headings_more = record {
-        inside = omega (arith, i.odd);
-        odd = omega (arith, i.odd);
+      pub turns_more : Turns p v north t x₀ q₀ other (n + 1) x'' q'' t'''
+      turns_more = record {
         size = made_size _ _ _ _ _ _ _ _ made ∙ s.size ∙ i.size;
         room = made.room;
         keeps = more_keeps;
-        behind = λ w o n. subst (λ (k : ℕ). Masks (at w.floor (target p k)) other) (omega arith) (ahead w o);
+        behind = λ w o k. subst (λ (j : ℕ). Masks (at w.floor (target p j)) other) (omega arith) (ahead w o);
       }
 
 -- north was first
-pub headings_all : (p v north t straight : ℕ) (x₀ q₀ x₁ q₁ : List ℕ) (t₁ side h : ℕ) (x q : List ℕ) (t' : ℕ) → at x₀ p ≡ v → straight ≡ v + span
-    → SideStep p 0 straight t x₀ q₀ x₁ q₁ t₁ north → Headings p v north t₁ x₁ q₁ side h x q t' → 8 ≤ h → TakenLeft p t x₀ q₀ x q t'
-headings_all p v north t straight x₀ q₀ x₁ q₁ t₁ side h x q t' e sum first i b = record {
+pub turns_all : (p v north t straight : ℕ) (x₀ q₀ x₁ q₁ : List ℕ) (t₁ side n : ℕ) (x q : List ℕ) (t' : ℕ) → at x₀ p ≡ v → straight ≡ v + span
+    → SideStep p 0 straight t x₀ q₀ x₁ q₁ t₁ north → Turns p v north t₁ x₁ q₁ side n x q t' → 4 ≤ n → TakenLeft p t x₀ q₀ x q t'
+turns_all p v north t straight x₀ q₀ x₁ q₁ t₁ side n x q t' e sum first i b = record {
   size = i.size ∙ made_size _ _ _ _ _ _ _ _ first.offer;
   room = i.room;
   keeps = λ w g small cell. keeps w (record { going = g; small = small; cell = cell });
@@ -146,6 +143,6 @@ headings_all p v north t straight x₀ q₀ x₁ q₁ t₁ side h x q t' e sum f
         }) in
         offered_more w _ p t x₀ q₀ x₁ q₁ t₁ o a _ (λ j. j < 8) x q t' m (λ j l k. by j l (ℕ_discrete j 0))
       where
-        by : (j : ℕ) → j < 8 → Dec (j ≡ 0) → (j ≡ 0) ⊎ ((0 < j) × (j < h))
+        by : (j : ℕ) → j < 8 → Dec (j ≡ 0) → (j ≡ 0) ⊎ ((0 < j) × (j ≤ 2 * n))
         by j l (yes z) = inl z
         by j l (no z) = inr (omega arith, omega arith)

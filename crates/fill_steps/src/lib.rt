@@ -36,13 +36,6 @@ const HALF: u32 = 8192;
 // How far apart the rows of the work array are: 128 cells and the border.
 pub const STRIDE: usize = 130;
 
-// The lesser of two numbers.
-fn lesser(a: u32, b: u32) -> u32
-    ensures { result ≡ min a b }
-{
-    if a < b { a } else { b }
-}
-
 // 1 for a cell that was not reached and now is, by its number before and after.
 fn newly(before: u32, after: u32) -> usize
     requires { after ≤ before }
@@ -59,7 +52,7 @@ fn lower(work: &mut [u32], queue: &mut [u32], tail: usize, place: usize, number:
     ensures { Lowered place number tail work.old queue.old work.new queue.new result }
 {
     let before = work[place];
-    work[place] = lesser(number, before);
+    work[place] = number.min(before);
     queue[tail] = place as u32;
     before
 }
@@ -71,7 +64,7 @@ fn offer(work: &mut [u32], queue: &mut [u32], tail: usize, place: usize, number:
     ensures { OfferMade place number tail work.old queue.old work.new queue.new result }
 {
     let before = lower(work, queue, tail, place, number);
-    tail + newly(before, lesser(number, before))
+    tail + newly(before, number.min(before))
 }
 
 // Where a heading leads from a place.
@@ -80,7 +73,7 @@ fn place_of(from: usize, heading: usize) -> usize
     requires heading_bound { heading < 8 }
     ensures { result ≡ target from heading }
 {
-    let change = steps::change_of(heading);
+    let change = steps::Heading { number: heading }.change();
     from + change.row * STRIDE + change.column - (STRIDE + 1)
 }
 
@@ -89,7 +82,7 @@ fn place_of(from: usize, heading: usize) -> usize
 fn mask_of(number: u32) -> u32
     ensures { MaskRead number result }
 {
-    std::num::wrapping_sub_u32(number, 1) / UNREACHED * UNREACHED
+    number.wrapping_sub(1) / UNREACHED * UNREACHED
 }
 
 // Where the queue ends after a straight step, and the mask of the cell that it leads to.
@@ -178,8 +171,7 @@ pub fn cell_steps(work: &mut [u32], queue: &mut [u32], tail: usize, from: usize)
     let north = side_step(work, queue, tail, from, 0, straight);
     let mut side = north.mask;
     let mut end = north.tail;
-    let mut heading: usize = 1;
-    while heading < 8 {
+    for heading in [1, 3, 5, 7] {
         let other = side_after(work, queue, end, from, heading, straight, north.mask);
         end = offer(
             work,
@@ -189,7 +181,6 @@ pub fn cell_steps(work: &mut [u32], queue: &mut [u32], tail: usize, from: usize)
             past(diagonal, side, other.mask),
         );
         side = other.mask;
-        heading += 2;
     }
     end
 }

@@ -13,7 +13,9 @@ use lib.Seq.{get_or-set_same}
 use lib.Dec.{T as Holds}
 use borrow.Author.Tests.{lt-ltb}
 use Rattle.floor.specs.Floor.{Map, open?, cells}
+use Rattle.floor.specs.Lent.{floor_map}
 use Rattle.floor.specs.inner.Ready.{Ready}
+use Rattle.calls.specs.declared.ends.Goal.{Goal}
 use Rattle.steps.specs.inner.Leading.{open_past}
 use Rattle.steps.specs.Step.{steps_of}
 use Rattle.steps.specs.Way.{Only}
@@ -172,6 +174,10 @@ module _ (m : Map) (goal entries : ℕ) (a : Ready m goal entries) (x : List ℕ
             get_or_any t y 4294967295 0 (omega (arith, w.size, same, a.fitting.size)) ∙ ap (λ (n : ℕ). get_or t n 0) (sym (zero-add y)) ∙ w.inside y k;
       };
     }
+
+-- what a goal on an accepted floor and a table with an entry for each cell have
+pub aimed : (g : Goal) (entries : ℕ) → entries ≡ cells (floor_map g.floor) → Ready (floor_map g.floor) g.cell entries
+aimed g entries e = record { fitting = record { sound = g.floor.sound; size = e }; chosen = g.chosen }
 
 -- new scratch: the array is made of zeros
 pub scratch : (m : Map) (n : ℕ) → n ≤ largest → (m.height + 2) * stride ≤ n → Scratch m (replicate n 0)

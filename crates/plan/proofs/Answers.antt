@@ -6,17 +6,17 @@ use native.Mathlib.Omega.{arith}
 use lib.ListN.{length, drop, length-append}
 use lib.Seq.{drop-drop}
 use borrow.Author.Tests.{lt-ltb, le-ltb}
+use Rattle.std.specs.Prelude.{Result, Ok}
+use Rattle.answers.specs.declared.Refusal.{Refusal}
 use Rattle.plan.specs.declared.Content.{Content}
-use Rattle.plan.specs.declared.Reading.{Reading}
-use Rattle.plan.specs.declared.Reading.TheVariants as reading
-use Rattle.plan.specs.declared.End.TheVariants as end
+use Rattle.plan.specs.declared.Plan.{Plan}
 use Rattle.plan.specs.Records.{number, number_in, floor_record, map_record, size_record, query_records}
 use Rattle.plan.specs.Sound.{Contents, Sound, plan_bytes, first_query_place}
 use Rattle.plan.specs.Break.{Wrong, Fixed, Any, Broken}
 use Rattle.plan.specs.Break.Wrong.{cut_off}
 use Rattle.plan.specs.Break.Broken.{at_floor, at_map, at_size, at_query}
 use Rattle.plan.specs.Reads.{plan_of, broken_at}
-use Rattle.plan.specs.inner.Steps.{content_at, record_at, fixed_record_at, count_from, end_at, after_end, after_queries, after_size, after_map, after_floor, reading_of}
+use Rattle.plan.specs.inner.Steps.{content_at, record_at, fixed_record_at, count_from, after_end, after_queries, after_size, after_map, after_floor, reading_of}
 use Rattle.plan.proofs.Numbers.{number_read}
 use Rattle.plan.proofs.Chain.{right_read, wrong_read, found_at, found_fixed_at, next_rest}
 use Rattle.plan.proofs.Queries.{count_right}
@@ -52,7 +52,7 @@ abbrev queries_at : ℕ → ℕ
 queries_at n = 12 + n + 4 + 2
 
 -- the answer for bytes that begin with a plan, as soon as its queries are counted
-abbrev counted : List ℕ → ℕ → ℕ → Reading
+abbrev counted : List ℕ → ℕ → ℕ → Result Plan Refusal
 counted bytes n count = after_queries bytes (content_at 0 4) (content_at 8 n) (content_at (12 + n) 2) count
 
 module _ (bytes rest : List ℕ) (c : Contents) (e : bytes ≡ plan_bytes c ++ rest) where
@@ -77,17 +77,8 @@ module _ (bytes rest : List ℕ) (c : Contents) (e : bytes ≡ plan_bytes c ++ r
       through.0
       ∙ ap (counted bytes (length c.map)) (count_right bytes rest c.queries 64 (queries_at (length c.map)) through.1 few stop)
 
--- the bytes end at an offset, or later
-here_end : (bytes : List ℕ) (at : ℕ) → length bytes ≤ at → end_at bytes at ≡ end.Here
-unfolding end_at
-here_end bytes at h = simp (le-ltb _ _ h)
-
-later_end : (bytes : List ℕ) (at : ℕ) → at < length bytes → end_at bytes at ≡ end.Later
-unfolding end_at
-later_end bytes at h = simp (lt-ltb _ _ h)
-
 -- a sound plan is answered with its numbers
-pub sound_read : (bytes : List ℕ) (c : Contents) → Sound bytes c → reading_of bytes ≡ reading.Sound (plan_of c)
+pub sound_read : (bytes : List ℕ) (c : Contents) → Sound bytes c → reading_of bytes ≡ Ok (plan_of c)
 sound_read bytes c s =
     let n = length c.map in
     let e : bytes ≡ plan_bytes c ++ [] = s.joined ∙ sym (append-nil (plan_bytes c)) in
@@ -97,9 +88,9 @@ sound_read bytes c s =
     ap number_in (sym (drop-drop 4 (12 + n) bytes) ∙ ap (drop 4) (through bytes [] c e).2) ∙ number_read c.size _ in
     let first : queries_at n ≡ first_query_place c = omega arith in
     all_counted bytes [] c e s.few (λ _. cut_off (omega arith))
-    ∙ (ap (after_end bytes (content_at 0 4) (content_at 8 n) (content_at (12 + n) 2) (length c.queries)) (here_end bytes _ (omega (arith, behind bytes [] c e)))
+    ∙ (ap (after_end bytes (content_at 0 4) (content_at 8 n) (content_at (12 + n) 2) (length c.queries)) (le-ltb _ _ (omega (arith, behind bytes [] c e)))
     ∙ λ i.
-    reading.Sound
+    Ok
     (record {
       width = width i;
       height = height i;
@@ -136,5 +127,5 @@ broken_read bytes at (at_query before c s a) =
     let place : queries_at n + 12 * length c.queries ≡ at = omega (arith, a.place, ap length s.joined, plan_length c) in
     all_counted bytes a.rest c e s.few a.breaks.no_query
     ∙ (ap (after_end bytes (content_at 0 4) (content_at 8 n) (content_at (12 + n) 2) (length c.queries))
-    (later_end bytes _ (omega (arith, behind bytes a.rest c e, a.breaks.more)))
+    (lt-ltb _ _ (omega (arith, behind bytes a.rest c e, a.breaks.more)))
     ∙ ap broken_at place)

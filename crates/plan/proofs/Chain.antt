@@ -1,5 +1,5 @@
 -- One record of the chain: what reading it answers, where the rest of the bytes begins with it and where it does not.
-use mathlib.Core.Path.{◌≡◌, refl, sym, ◌∙◌, ap, ap₂, subst, subst⁻¹}
+use mathlib.Core.Path.{◌≡◌, refl, sym, ◌∙◌, ap, ap₂, subst⁻¹}
 use mathlib.Core.Bool.{Bool, true, false}
 use mathlib.Core.List.{List, ◌++◌}
 use Prim.Native.Nat.{ℕ, ◌+◌, ◌-◌, ◌≤◌}
@@ -8,10 +8,9 @@ use lib.ListN.{length, take, drop, length-append, length-drop, take-append-drop}
 use lib.Seq.{drop-drop, drop_at, length-take-le}
 use lib.Dec.{leb, eqb}
 use borrow.Author.Tests.{leb-true, leb-false, eqb-true, eqb-false}
+use Rattle.std.specs.Prelude.{Option, Some, None}
 use Rattle.answers.specs.Bools.{pick}
 use Rattle.plan.specs.declared.Content.{Content}
-use Rattle.plan.specs.declared.Record.{Record}
-use Rattle.plan.specs.declared.Record.TheVariants.{Read, Broken}
 use Rattle.plan.specs.Records.{number, record_of, length_in, kind_in}
 use Rattle.plan.specs.Break.{Wrong, Fixed, Any}
 use Rattle.plan.specs.Break.Wrong.{cut_off, wrong_kind, wrong_length}
@@ -52,9 +51,9 @@ record_whole rest b h =
     ∙ sym (ap₂ (λ (m : ℕ) (l : List ℕ). number m ++ (number k ++ l)) size joined))
 
 -- what an answer shows of the rest: the record that it states is whole and as it should be, or something is wrong with it
-pub data Met (rest : List ℕ) (at kind : ℕ) (Takes : ℕ → Type 0) : Record → Type 0 where
-  whole : 4 + length_in rest ≤ length rest → kind_in rest ≡ kind → Takes (length_in rest) → Met rest at kind Takes (Read (content_at at (length_in rest)))
-  wrong : Wrong kind Takes rest → Met rest at kind Takes Broken
+pub data Met (rest : List ℕ) (at kind : ℕ) (Takes : ℕ → Type 0) : Option Content → Type 0 where
+  whole : 4 + length_in rest ≤ length rest → kind_in rest ≡ kind → Takes (length_in rest) → Met rest at kind Takes (Some (content_at at (length_in rest)))
+  wrong : Wrong kind Takes rest → Met rest at kind Takes None
 
 -- a record that is whole, of its kind and of a length that the kind takes is not wrong
 not_wrong : {kind : ℕ} {Takes : ℕ → Type 0} (rest : List ℕ) → 4 + length_in rest ≤ length rest → kind_in rest ≡ kind → Takes (length_in rest)
@@ -65,18 +64,18 @@ not_wrong rest h k t (wrong_length c) = c t
 
 -- a record that begins the rest is the one that is read, and where something is wrong with it none is
 module _ (rest : List ℕ) (at kind : ℕ) (Takes : ℕ → Type 0) where
-  pub whole_read : 4 + length_in rest ≤ length rest → kind_in rest ≡ kind → Takes (length_in rest) → (r : Record) → Met rest at kind Takes r
-      → r ≡ Read (content_at at (length_in rest))
+  pub whole_read : 4 + length_in rest ≤ length rest → kind_in rest ≡ kind → Takes (length_in rest) → (r : Option Content) → Met rest at kind Takes r
+      → r ≡ Some (content_at at (length_in rest))
   whole_read h k t r (whole h' k' t') = refl
   whole_read h k t r (wrong w) = absurd (not_wrong rest h k t w)
 
   pub right_read : (content after : List ℕ) → rest ≡ record_of kind content ++ after → Takes (length content)
-      → (r : Record) → Met rest at kind Takes r → r ≡ Read (content_at at (length content))
+      → (r : Option Content) → Met rest at kind Takes r → r ≡ Some (content_at at (length content))
   right_read content after e t r f =
       let b = begins rest kind content after e in
-      whole_read (omega arith) b.kind_stated (subst⁻¹ Takes b.length_stated t) r f ∙ ap (λ (n : ℕ). Read (content_at at n)) b.length_stated
+      whole_read (omega arith) b.kind_stated (subst⁻¹ Takes b.length_stated t) r f ∙ ap (λ (n : ℕ). Some (content_at at n)) b.length_stated
 
-  pub wrong_read : Wrong kind Takes rest → (r : Record) → Met rest at kind Takes r → r ≡ Broken
+  pub wrong_read : Wrong kind Takes rest → (r : Option Content) → Met rest at kind Takes r → r ≡ None
   wrong_read w r (whole h k t) = absurd (not_wrong rest h k t w)
   wrong_read w r (wrong w') = refl
 
@@ -86,18 +85,18 @@ unfolding record_in
 found_in rest at kind = go (leb (4 + length_in rest) (length rest)) refl (eqb (kind_in rest) kind) refl
   where
     go : (b : Bool) → leb (4 + length_in rest) (length rest) ≡ b → (k : Bool) → eqb (kind_in rest) kind ≡ k
-        → Met rest at kind Any (pick b (pick k (Read (content_at at (length_in rest))) Broken) Broken)
+        → Met rest at kind Any (pick b (pick k (Some (content_at at (length_in rest))) None) None)
     go true e true f = whole (leb-true _ _ e) (eqb-true _ _ f) tt
     go true e false f = wrong (wrong_kind (eqb-false _ _ f))
     go false e true f = wrong (cut_off (leb-false _ _ e))
     go false e false f = wrong (cut_off (leb-false _ _ e))
 
 -- and, for a fixed length, by one more
-of_length : (rest : List ℕ) (at kind n : ℕ) (r : Record) → Met rest at kind Any r → Met rest at kind (Fixed n) (of_fixed_length n r)
+of_length : (rest : List ℕ) (at kind n : ℕ) (r : Option Content) → Met rest at kind Any r → Met rest at kind (Fixed n) (of_fixed_length n r)
 unfolding of_fixed_length
 of_length rest at kind n r (whole h k t) = go (eqb (length_in rest) n) refl
   where
-    go : (b : Bool) → eqb (length_in rest) n ≡ b → Met rest at kind (Fixed n) (pick b (Read (content_at at (length_in rest))) Broken)
+    go : (b : Bool) → eqb (length_in rest) n ≡ b → Met rest at kind (Fixed n) (pick b (Some (content_at at (length_in rest))) None)
     go true e = whole h k (eqb-true _ _ e)
     go false e = wrong (wrong_length (eqb-false _ _ e))
 of_length rest at kind n r (wrong (cut_off h)) = wrong (cut_off h)
@@ -119,18 +118,3 @@ module _ (bytes : List ℕ) (at kind : ℕ) where
   next_rest content after e =
       let same : at + 4 + length content ≡ at + (4 + length content) = omega arith in
       rw same (sym (drop-drop (4 + length content) at bytes) ∙ (begins (drop at bytes) kind content after e).goes_on)
-
--- where the content of a record that was read lies
-pub record Lies (bytes : List ℕ) (at : ℕ) (Takes : ℕ → Type 0) (c : Content) : Type 0 where
-  pub begins_at : c.at ≡ at + 4
-  pub next_at : c.next ≡ at + 4 + c.len
-  pub within : c.next ≤ length bytes
-  pub right_length : Takes c.len
-
-pub lies : (bytes : List ℕ) (at kind : ℕ) (Takes : ℕ → Type 0) → at ≤ length bytes → (r : Record) → Met (drop at bytes) at kind Takes r
-    → (c : Content) → r ≡ Read c → Lies bytes at Takes c
-lies bytes at kind Takes b r (whole h k t) c e =
-    let same : content_at at (length_in (drop at bytes)) ≡ c = cc in
-    subst (Lies bytes at Takes) same
-    (record { begins_at = refl; next_at = refl; within = omega (arith, length-drop at bytes); right_length = t })
-lies bytes at kind Takes b r (wrong w) c e = let z : ◌≡◌ {A = ℕ} 0 1 = cc in absurd (omega arith)

@@ -4,15 +4,16 @@ use mathlib.Core.List.{List, [], ◌∷◌}
 use Prim.Native.Nat.{ℕ}
 use native.Mathlib.Omega.{arith}
 use lib.ListN.{length, get_or, take, drop}
-use Rattle.answers.specs.Refusing.{Given, done, refused}
+use Rattle.std.specs.Prelude.{Result}
+use Rattle.answers.specs.declared.Refusal.{Refusal}
+use Rattle.answers.specs.Refusing.{gives}
+use Rattle.answers.proofs.Refusals.{gives_apart}
 use Rattle.plan.specs.declared.Query.{Query}
 use Rattle.plan.specs.declared.Plan.{Plan}
-use Rattle.plan.specs.declared.Reading.{Reading}
-use Rattle.plan.specs.declared.Reading.TheVariants as reading
 use Rattle.plan.specs.Records.{query_records}
 use Rattle.plan.specs.Sound.{Contents, Sound}
 use Rattle.plan.specs.Break.{Broken}
-use Rattle.plan.specs.Reads.{plan_of, reading_gives, Reads}
+use Rattle.plan.specs.Reads.{plan_of, plan_given, Reads}
 use Rattle.plan.specs.inner.Steps.{reading_of}
 use Rattle.plan.proofs.Queries.{query_here}
 use Rattle.plan.proofs.Places.{map_there, queries_there}
@@ -22,40 +23,33 @@ use Rattle.plan.proofs.Answers.{sound_read, broken_read}
 pub not_both : {bytes : List ℕ} {c : Contents} {at : ℕ} → Sound bytes c → Broken bytes at → ⊥
 not_both {bytes} {c} {at} s b =
     let e = sound_read bytes c s in
-    let f = broken_read bytes at b in
-    let z : ◌≡◌ {A = ℕ} 0 1 = cc in
-    omega arith
+    let f = broken_read bytes at b in cc
 
 -- no bytes break at two places
-abbrev place_of : Reading → ℕ
-place_of (reading.Sound p) = 0
-place_of (reading.Refused f) = f.place
-
 pub one_break : {bytes : List ℕ} {at at' : ℕ} → Broken bytes at → Broken bytes at' → at ≡ at'
 one_break {bytes} {at} {at'} b b' =
-    ap place_of (sym (broken_read bytes at b) ∙ broken_read bytes at' b')
+    let e = broken_read bytes at b in
+    let f = broken_read bytes at' b' in cc
 
 -- the answer is known by what it gives back
-answer_of : Given → Reading
-answer_of (done vs) =
+plan_from : List ℕ → Plan
+plan_from vs =
     let v : ℕ → ℕ = λ i. get_or vs i 0 in
-    reading.Sound (record { width = v 0; height = v 1; size = v 2; map_at = v 3; map_len = v 4; queries = v 5; first_query = v 6 })
-answer_of (refused f) = reading.Refused f
+    record { width = v 0; height = v 1; size = v 2; map_at = v 3; map_len = v 4; queries = v 5; first_query = v 6 }
 
-answer_back : (r : Reading) → answer_of (reading_gives r) ≡ r
-unfolding answer_of
-answer_back (reading.Sound p) = refl
-answer_back (reading.Refused f) = refl
+plans_apart : (p q : Plan) → plan_given p ≡ plan_given q → p ≡ q
+unfolding plan_from
+plans_apart p q e = ap plan_from e
 
-pub reading_apart : (r r' : Reading) → reading_gives r ≡ reading_gives r' → r ≡ r'
-reading_apart r r' e = sym (answer_back r) ∙ (ap answer_of e ∙ answer_back r')
+pub reading_apart : (r r' : Result Plan Refusal) → gives plan_given r ≡ gives plan_given r' → r ≡ r'
+reading_apart r r' e = gives_apart plan_given plans_apart r r' e
 
 -- the reader's answer is the steps' answer, so it is one
-read_steps : (bytes : List ℕ) (r : Reading) → Reads bytes r → r ≡ reading_of bytes
+read_steps : (bytes : List ℕ) (r : Result Plan Refusal) → Reads bytes r → r ≡ reading_of bytes
 read_steps bytes r (Reads.sound c s e) = reading_apart r _ e ∙ sym (sound_read bytes c s)
 read_steps bytes r (Reads.broken at b e) = reading_apart r _ e ∙ sym (broken_read bytes at b)
 
-pub reads_only : (bytes : List ℕ) (r r' : Reading) → Reads bytes r → Reads bytes r' → r ≡ r'
+pub reads_only : (bytes : List ℕ) (r r' : Result Plan Refusal) → Reads bytes r → Reads bytes r' → r ≡ r'
 reads_only bytes r r' p q = read_steps bytes r p ∙ sym (read_steps bytes r' q)
 
 -- queries are known by their records
@@ -71,7 +65,8 @@ queries_one (q ∷ qs) (q' ∷ qs') e =
 -- no bytes have two contents
 pub one_contents : {bytes : List ℕ} {c c' : Contents} → Sound bytes c → Sound bytes c' → c ≡ c'
 one_contents {bytes} {c} {c'} s s' =
-    let plans : reading.Sound (plan_of c) ≡ reading.Sound (plan_of c') = sym (sound_read bytes c s) ∙ sound_read bytes c' s' in
+    let first = sound_read bytes c s in
+    let second = sound_read bytes c' s' in
     let same : plan_of c ≡ plan_of c' = cc in
     let map : c.map ≡ c'.map =
     sym (map_there s) ∙ (ap (λ (p : Plan). take p.map_len (drop p.map_at bytes)) same ∙ map_there s') in

@@ -17,6 +17,7 @@ module _ (bytes rest : List ℕ) where
   -- so many queries, with a wrong record behind them unless no more are wanted, are counted
   pub count_right : (qs : List Query) (left at : ℕ) → drop at bytes ≡ query_records qs ++ rest → length qs ≤ left
       → (length qs < left → Wrong 4 (Fixed 8) rest) → count_from bytes left at ≡ length qs
+  unfolding count_from
   count_right [] zero at e h stop = refl
   count_right [] (suc left) at e h stop =
       ap (and_more (count_from bytes left)) (wrong_read (drop at bytes) at 4 (Fixed 8) (rw e (stop (omega arith))) _ (found_fixed_at bytes at 4 8))

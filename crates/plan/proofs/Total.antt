@@ -5,8 +5,9 @@ use Prim.Native.Nat.{ℕ, zero, suc, ◌+◌, ◌-◌, ◌<◌, ◌≤◌}
 use native.Mathlib.Omega.{arith}
 use lib.ListN.{length, take, drop, length-drop}
 use lib.Seq.{length-take-le}
+use Rattle.std.specs.Prelude.{Option}
 use Rattle.plan.specs.declared.Query.{Query}
-use Rattle.plan.specs.declared.Record.{Record}
+use Rattle.plan.specs.declared.Content.{Content}
 use Rattle.plan.specs.Records.{number_in, record_of, length_in, floor_record, map_record, size_record, query_records}
 use Rattle.plan.specs.Sound.{Contents, Sound, plan_bytes}
 use Rattle.plan.specs.Break.{Wrong, Fixed, Any, Broken}
@@ -21,7 +22,7 @@ data Opened (kind : ℕ) (Takes : ℕ → Type 0) (rest : List ℕ) : Type 0 whe
       → Opened kind Takes rest
   wrong : Wrong kind Takes rest → Opened kind Takes rest
 
-begun : (kind : ℕ) (Takes : ℕ → Type 0) (rest : List ℕ) → Bytes rest → (r : Record) → Met rest 0 kind Takes r → Opened kind Takes rest
+begun : (kind : ℕ) (Takes : ℕ → Type 0) (rest : List ℕ) → Bytes rest → (r : Option Content) → Met rest 0 kind Takes r → Opened kind Takes rest
 begun kind Takes rest b r (Met.whole h k t) =
     let n = length_in rest in
     let long : length (drop 4 rest) ≡ length rest - 4 = length-drop 4 rest in

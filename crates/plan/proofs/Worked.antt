@@ -3,7 +3,7 @@ use mathlib.Core.Path.{refl}
 use mathlib.Core.List.{List, [], ◌∷◌}
 use Prim.Native.Nat.{ℕ}
 use native.Mathlib.Omega.{arith}
-use Rattle.plan.specs.declared.Reading.TheVariants as reading
+use Rattle.std.specs.Prelude.{Ok}
 use Rattle.plan.specs.Sound.{Contents}
 use Rattle.plan.specs.Reads.{Reads}
 
@@ -32,6 +32,6 @@ contents =
 
 -- 5 by 3, 50 centimetres, 3 bytes of map at 12, and 2 queries from 21 on
 pub worked : Reads input
-    (reading.Sound (record { width = 5; height = 3; size = 50; map_at = 12; map_len = 3; queries = 2; first_query = 21 }))
+    (Ok (record { width = 5; height = 3; size = 50; map_at = 12; map_len = 3; queries = 2; first_query = 21 }))
 unfolding input contents
 worked = Reads.sound contents (record { joined = refl; few = omega arith }) refl

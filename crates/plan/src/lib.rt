@@ -2,13 +2,12 @@
 // sound plan holds and where, or the place of the break.
 #![tactic(auto)]
 
-ghost use Rattle.std.specs.Prelude.{◌≡◌, ◌+◌, ◌≤◌, length, drop};
-ghost use Rattle.answers.specs.Refusing.{refuse};
+ghost use Rattle.std.specs.Prelude.{◌≡◌, ◌+◌, ◌≤◌, length, drop, IfOk};
 ghost use Rattle.plan.specs.Records.{number_in};
-ghost use Rattle.plan.specs.Reads.{broken_at, Reads, query_at, record_past, Asks};
-ghost use Rattle.plan.specs.inner.Steps.{record_at, fixed_record_at, count_from, end_at};
+ghost use Rattle.plan.specs.Reads.{Reads, query_at, Asks};
+ghost use Rattle.plan.specs.inner.Steps.{kind_number, or_broken, record_at, fixed_record_at, count_from, Lies};
 
-use answers::{Refusal, Tested};
+use answers::Refusal;
 
 // What a sound plan holds, and where its map and its queries lie. The numbers are not judged.
 #[derive(Clone, Copy)]
@@ -22,13 +21,6 @@ pub struct Plan {
     pub first_query: usize,
 }
 
-// The reader's answer: a sound plan, or a refusal with the offset of the break.
-#[derive(Clone, Copy)]
-pub enum Reading {
-    Sound(Plan),
-    Refused(Refusal),
-}
-
 // A query: the start's column and row, and the goal's.
 #[derive(Clone, Copy)]
 pub struct Query {
@@ -38,108 +30,91 @@ pub struct Query {
     pub goal_row: usize,
 }
 
-// What asking for a query answers: the query, or a refusal.
+// The kinds of records, with their numbers.
 #[derive(Clone, Copy)]
-pub enum Asked {
-    Query(Query),
-    Refused(Refusal),
+enum Kind {
+    Floor = 1,
+    Map = 2,
+    Size = 3,
+    Query = 4,
+}
+
+impl Kind {
+    // The number that a record's header states for it.
+    fn number(self) -> usize
+        ensures { result ≡ kind_number self }
+    {
+        self as usize
+    }
 }
 
 // A record's content: where it begins, how long it is, and where the next record begins.
 #[derive(Clone, Copy)]
 struct Content {
-    pub at: usize,
-    pub len: usize,
-    pub next: usize,
+    at: usize,
+    len: usize,
+    next: usize,
 }
 
-// One record: read, or not there as it should be.
-#[derive(Clone, Copy)]
-enum Record {
-    Read(Content),
-    Broken,
-}
-
-// Whether the bytes end at an offset.
-#[derive(Clone, Copy)]
-enum End {
-    Here,
-    Later,
-}
+// The most queries of a plan.
+const MOST_QUERIES: usize = 64;
 
 // The number in the 2 bytes at an offset, little-endian.
+#[tactic(auto, using(crate::proofs::Numbers::number_there))]
 fn number_at(bytes: &[u8], at: usize) -> usize
     requires { at + 2 ≤ length bytes.now }
     ensures { result ≡ number_in (drop at bytes.now) }
 {
-    let low = bytes[at] as usize;
-    let high = bytes[at + 1] as usize;
-    low + 256 * high
+    u16::from_le_bytes([bytes[at], bytes[at + 1]]) as usize
 }
 
-// The record of a kind that begins at an offset; Broken where it is missing, cut off or of another kind.
-fn record_at(bytes: &[u8], at: usize, kind: usize) -> Record
-    requires { at ≤ length bytes.now }
-    ensures { result ≡ record_at bytes.now at kind }
+// The record of a kind that begins at an offset. Refusal: PlanBroken there, where it is missing, cut off or of another
+// kind.
+fn record_at(bytes: &[u8], at: usize, kind: Kind) -> Result<Content, Refusal>
+    ensures value { result ≡ or_broken at (record_at bytes.now at (kind_number kind)) }
+    ensures within { IfOk result (λ c. Lies bytes.now at c) }
 {
-    let left = bytes.len() - at;
+    let broken = Refusal::PlanBroken(at);
+    let left = bytes.len().saturating_sub(at);
     if left < 4 {
-        return Record::Broken;
+        return Err(broken);
     }
     let len = number_at(bytes, at);
-    if left - 4 < len {
-        return Record::Broken;
+    if left - 4 < len || number_at(bytes, at + 2) != kind.number() {
+        return Err(broken);
     }
-    if number_at(bytes, at + 2) != kind {
-        return Record::Broken;
-    }
-    Record::Read(Content {
+    Ok(Content {
         at: at + 4,
         len,
         next: at + 4 + len,
     })
 }
 
-// The same of a kind whose content has a fixed length; Broken also where it has another.
-fn fixed_record_at(bytes: &[u8], at: usize, kind: usize, len: usize) -> Record
-    requires { at ≤ length bytes.now }
-    ensures { result ≡ fixed_record_at bytes.now at kind len }
+// The same of a kind whose content has a fixed length. Refusal: PlanBroken also where it has another.
+fn fixed_record_at(bytes: &[u8], at: usize, kind: Kind, len: usize) -> Result<Content, Refusal>
+    ensures value { result ≡ or_broken at (fixed_record_at bytes.now at (kind_number kind) len) }
+    ensures within { IfOk result (λ c. (c.len ≡ len) × Lies bytes.now at c) }
 {
-    let Record::Read(content) = record_at(bytes, at, kind) else {
-        return Record::Broken;
-    };
+    let content = record_at(bytes, at, kind)?;
     if content.len != len {
-        return Record::Broken;
+        return Err(Refusal::PlanBroken(at));
     }
-    Record::Read(content)
+    Ok(content)
 }
 
-// How many queries stand one after another from an offset: at most 64 are counted.
+// How many queries stand one after another from an offset, up to the most that a plan has.
 fn count_queries(bytes: &[u8], first: usize) -> usize
-    requires { first ≤ length bytes.now }
-    ensures { result ≡ count_from bytes.now 64 first }
+    ensures value { result ≡ count_from bytes.now 64 first }
+    ensures few { result ≤ 64 }
 {
-    let mut count: usize = 0;
     let mut at = first;
-    while count < 64 {
-        let Record::Read(query) = fixed_record_at(bytes, at, 4, 8) else {
+    for count in 0..MOST_QUERIES {
+        let Ok(query) = fixed_record_at(bytes, at, Kind::Query, 8) else {
             return count;
         };
         at = query.next;
-        count += 1;
     }
-    count
-}
-
-// Whether the bytes end at an offset.
-fn end_at(bytes: &[u8], at: usize) -> End
-    ensures { result ≡ end_at bytes.now at }
-{
-    if at < bytes.len() {
-        End::Later
-    } else {
-        End::Here
-    }
+    MOST_QUERIES
 }
 
 // The query whose record begins at an offset.
@@ -155,56 +130,26 @@ pub fn query_at(bytes: &[u8], at: usize) -> Query
     }
 }
 
-// 14: a query's record, of 12 bytes, that begins at an offset lies within the bytes.
-fn test_record(bytes: &[u8], at: usize) -> Tested
-    ensures { result ≡ refuse 14 (record_past bytes.now at) }
-{
-    if bytes.len() < 12 {
-        return answers::refuse_if(14, true);
-    }
-    answers::refuse_if(14, bytes.len() - 12 < at)
-}
-
-// The query whose record begins at an offset. Refusal: 14, where the bytes end before the record does.
-pub fn ask_query(bytes: &[u8], at: usize) -> Asked
+// The query whose record, of 12 bytes, begins at an offset. Refusal: PlanBroken, where the bytes end before the record
+// does; it comes with no place.
+pub fn ask_query(bytes: &[u8], at: usize) -> Result<Query, Refusal>
     ensures { Asks bytes.now at result }
 {
-    let tested = test_record(bytes, at);
-    let Tested::Passed = tested else {
-        return Asked::Refused(answers::refusal_of(tested));
-    };
-    Asked::Query(query_at(bytes, at))
+    answers::refuse(Refusal::PlanBroken(0), bytes.len().saturating_sub(at) < 12)?;
+    Ok(query_at(bytes, at))
 }
 
-// 14: the plan is broken at an offset.
-fn broken(at: usize) -> Reading
-    ensures { result ≡ broken_at at }
-{
-    Reading::Refused(Refusal {
-        number: 14,
-        place: at,
-    })
-}
-
-// What the bytes are as a plan. Refusal: 14, with the offset of the break.
-pub fn read(bytes: &[u8]) -> Reading
+// What the bytes are as a plan. Refusal: PlanBroken, with the offset of the break.
+pub fn read(bytes: &[u8]) -> Result<Plan, Refusal>
     ensures { Reads bytes.now result }
 {
-    let Record::Read(floor) = fixed_record_at(bytes, 0, 1, 4) else {
-        return broken(0);
-    };
-    let Record::Read(map) = record_at(bytes, floor.next, 2) else {
-        return broken(floor.next);
-    };
-    let Record::Read(size) = fixed_record_at(bytes, map.next, 3, 2) else {
-        return broken(map.next);
-    };
+    let floor = fixed_record_at(bytes, 0, Kind::Floor, 4)?;
+    let map = record_at(bytes, floor.next, Kind::Map)?;
+    let size = fixed_record_at(bytes, map.next, Kind::Size, 2)?;
     let queries = count_queries(bytes, size.next);
     let end = size.next + 12 * queries;
-    let End::Here = end_at(bytes, end) else {
-        return broken(end);
-    };
-    Reading::Sound(Plan {
+    answers::refuse(Refusal::PlanBroken(end), end < bytes.len())?;
+    Ok(Plan {
         width: number_at(bytes, floor.at),
         height: number_at(bytes, floor.at + 2),
         size: number_at(bytes, size.at),

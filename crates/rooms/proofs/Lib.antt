@@ -3,5 +3,4 @@ pub mod Apart
 pub mod InRoom
 pub mod Running
 pub mod Rooms
-pub mod Exits
 pub mod Unique

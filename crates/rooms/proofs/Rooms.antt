@@ -1,13 +1,14 @@
 -- The room around an open cell: a free rectangle that has the cell in it, that cannot be widened west or east, and
 -- whose column through the cell cannot be lengthened north or south.
-use mathlib.Core.Path.{◌≡◌, refl, sym, subst}
+use mathlib.Core.Path.{◌≡◌, refl, subst}
 use mathlib.Core.Logic.{◌⊎◌, inl, inr, ⊎_elim}
 use mathlib.Core.Bool.{Bool, true, false}
 use Prim.Native.Nat.{ℕ, ◌+◌, ◌-◌, ◌≤◌, ◌<◌}
-use native.Mathlib.Decide.{dec_lt, ℕ_discrete}
 use native.Mathlib.Omega.{arith}
 use lib.Dec.{T}
+use Rattle.std.proofs.lemmas.Bool.{cases_order}
 use Rattle.rooms.specs.declared.Room.{Room}
+use Rattle.answers.specs.Bools.{run}
 use Rattle.floor.specs.Floor.{Map, open?, Open}
 use Rattle.rooms.specs.Room.{top_of, bottom_of, left_of, right_of, column_open, room_of}
 use Rattle.floor.proofs.Reading.{open_on}
@@ -30,6 +31,15 @@ pub east : (m : Map) (top bottom column : ℕ) → column < m.width → Forward 
 unfolding right_of
 east m top bottom column on = forward (column_open m top bottom) m.width column on
 
+-- what growth has counted in each direction, as a room
+pub room_is : (m : Map) (column row : ℕ) (north south west east : ℕ)
+    → north ≡ run (λ i. open? m column (row - 1 - i)) row → south ≡ run (λ i. open? m column (row + 1 + i)) (m.height - 1 - row)
+    → west ≡ run (λ i. column_open m (row - north) (row + south) (column - 1 - i)) column
+    → east ≡ run (λ i. column_open m (row - north) (row + south) (column + 1 + i)) (m.width - 1 - column)
+    → record { left = column - west; top = row - north; right = column + east; bottom = row + south } ≡ room_of m column row
+unfolding top_of bottom_of left_of right_of
+room_is m column row north south west east n s w e = let w' = rw (n, s) at w in let e' = rw (n, s) at e in cc
+
 -- a cell lies in a room
 pub record Inside (room : Room) (column row : ℕ) : Type 0 where
   pub west : room.left ≤ column
@@ -37,18 +47,7 @@ pub record Inside (room : Room) (column row : ℕ) : Type 0 where
   pub north : room.top ≤ row
   pub south : row ≤ room.bottom
 
-trichotomy : (a b : ℕ) → (a < b) ⊎ ((a ≡ b) ⊎ (b < a))
-trichotomy a b = by (dec_lt a b) (ℕ_discrete a b)
-  where
-    by : Dec (a < b) → Dec (a ≡ b) → (a < b) ⊎ ((a ≡ b) ⊎ (b < a))
-    by (yes lt) e = inl lt
-    by (no ge) (yes e) = inr (inl e)
-    by (no ge) (no e) = inr (inr (omega arith))
-
--- a test that holds
-holds : (b : Bool) → b ≡ true → T b
-holds b e = subst T (sym e) tt
-
+-- a test that holds, and one that fails
 passes : (b : Bool) → T b → b ≡ true
 passes true t = refl
 passes false t = absurd t
@@ -87,20 +86,20 @@ module _ (m : Map) (column row : ℕ) (cell : Open m column row) where
 
   -- every cell of the column run is open
   column_run : (r : ℕ) → top_of m column row ≤ r → r ≤ bottom_of m column row → open? m column r ≡ true
-  column_run r p q = by (trichotomy r row)
+  column_run r p q = by (cases_order r row)
     where
-      by : (r < row) ⊎ ((r ≡ row) ⊎ (row < r)) → open? m column r ≡ true
-      by (inl lt) = (north m column row).passed r p lt
-      by (inr (inl e)) = rw e (passes (open? m column row) cell)
+      by : (r ≡ row) ⊎ ((r < row) ⊎ (row < r)) → open? m column r ≡ true
+      by (inl e) = rw e (passes (open? m column row) cell)
+      by (inr (inl lt)) = (north m column row).passed r p lt
       by (inr (inr gt)) = (south m column row on.1).passed r (omega arith) (omega arith)
 
   -- every cell in it is open
   pub room_free : (c r : ℕ) → Inside (room_of m column row) c r → Open m c r
-  room_free c r inside = holds (open? m c r) (by (trichotomy c column))
+  room_free c r inside = rw (by (cases_order c column)) tt
     where
-      by : (c < column) ⊎ ((c ≡ column) ⊎ (column < c)) → open? m c r ≡ true
-      by (inl lt) = whole m (top_of m column row) (bottom_of m column row) c ((west m _ _ column).passed c inside.west lt) r inside.north (omega (arith, inside.south))
-      by (inr (inl e)) = rw e (column_run r inside.north inside.south)
+      by : (c ≡ column) ⊎ ((c < column) ⊎ (column < c)) → open? m c r ≡ true
+      by (inl e) = rw e (column_run r inside.north inside.south)
+      by (inr (inl lt)) = whole m (top_of m column row) (bottom_of m column row) c ((west m _ _ column).passed c inside.west lt) r inside.north (omega (arith, inside.south))
       by (inr (inr gt)) =
           whole m (top_of m column row) (bottom_of m column row) c
           ((east m (top_of m column row) (bottom_of m column row) column on.0).passed c (omega arith) (omega (arith, inside.east))) r inside.north (omega (arith, inside.south))

@@ -8,6 +8,7 @@ use Prim.Native.Nat.{ℕ, zero, suc, ◌+◌, ◌-◌, ◌≤◌, ◌<◌}
 use native.Mathlib.Decide.{dec_lt}
 use native.Mathlib.Omega.{arith}
 use Rattle.answers.specs.Bools.{run, all_below, pick}
+use Rattle.rooms.specs.inner.Runs.{Counts}
 use Rattle.answers.proofs.Bools.{all_at, all_from, all_fails, some_fails}
 
 -- i is as far as one can go: all before it pass, and it is the end or fails
@@ -39,6 +40,12 @@ not_less test n i j a b = by (dec_lt i j)
 run_is : (test : ℕ → Bool) (n i : ℕ) → Runs test n i → run test n ≡ i
 run_is test n i a = omega (arith, not_less test n i (run test n) a (runs test n), not_less test n (run test n) i (runs test n) a)
 
+-- the run of whatever test each call answers
+pub counts : (Answers : ℕ → Bool → Type 0) (most n : ℕ) → n ≤ most → ((j : ℕ) → j < n → Answers j true) → (n < most → Answers n false)
+    → Counts Answers most n
+counts Answers most n h passed stop test answers =
+    sym (run_is test most n (record { most = h; passed = λ j lt. sym (answers j true (omega arith) (passed j lt)); stop = λ lt. sym (answers n false lt (stop lt)) }))
+
 -- all from a up to before b pass
 abbrev pub AllPass : (ℕ → Bool) → ℕ → ℕ → Type 0
 AllPass test a b = (k : ℕ) → a ≤ k → k < b → test k ≡ true
@@ -46,16 +53,6 @@ AllPass test a b = (k : ℕ) → a ≤ k → k < b → test k ≡ true
 module _ (test : ℕ → Bool) where
   at : (i j : ℕ) (b : Bool) → i ≡ j → test i ≡ b → test j ≡ b
   at i j b e t = subst (λ (k : ℕ). test k ≡ b) e t
-
-  pub none_yet : (a : ℕ) → AllPass test a a
-  none_yet a k p q = absurd (omega arith)
-
-  pub one_before : (a b : ℕ) → 0 < a → AllPass test a b → test (a - 1) ≡ true → AllPass test (a - 1) b
-  one_before a b h all t k p q = by (dec_lt k a)
-    where
-      by : Dec (k < a) → test k ≡ true
-      by (yes lt) = at (a - 1) k true (omega arith) t
-      by (no ge) = all k (omega arith) q
 
   pub one_after : (a b : ℕ) → AllPass test a b → test b ≡ true → AllPass test a (b + 1)
   one_after a b all t k p q = by (dec_lt k b)
@@ -84,18 +81,6 @@ module _ (test : ℕ → Bool) where
   back_end x zero b = inl refl
   back_end x (suc y) b = inr (b.stop (omega arith))
 
-  pub backward_is : (x y : ℕ) → Backward x y → y ≡ x - run (λ i. test (x - 1 - i)) x
-  backward_is x y b =
-      let most = b.most in
-      let e : run (λ i. test (x - 1 - i)) x ≡ x - y =
-      run_is (λ i. test (x - 1 - i)) x (x - y)
-      (record {
-        most = omega arith;
-        passed = λ j lt. b.passed (x - 1 - j) (omega arith) (omega arith);
-        stop = λ lt. at (y - 1) (x - 1 - (x - y)) false (omega arith) (b.stop (omega arith));
-      }) in
-      omega arith
-
   -- from x one can go forward as far as y, which stays below the limit
   pub record Forward (limit x y : ℕ) : Type 0 where
     pub least : x ≤ y
@@ -121,19 +106,6 @@ module _ (test : ℕ → Bool) where
       by : Dec (y + 1 < limit) → (y + 1 ≡ limit) ⊎ (test (y + 1) ≡ false)
       by (yes lt) = inr (f.stop lt)
       by (no ge) = inl (omega (arith, f.within))
-
-  pub forward_is : (limit x y : ℕ) → Forward limit x y → y ≡ x + run (λ i. test (x + 1 + i)) (limit - 1 - x)
-  forward_is limit x y f =
-      let least = f.least in
-      let within = f.within in
-      let e : run (λ i. test (x + 1 + i)) (limit - 1 - x) ≡ y - x =
-      run_is (λ i. test (x + 1 + i)) (limit - 1 - x) (y - x)
-      (record {
-        most = omega arith;
-        passed = λ j lt. f.passed (x + 1 + j) (omega arith) (omega arith);
-        stop = λ lt. at (y + 1) (x + 1 + (y - x)) false (omega arith) (f.stop (omega arith));
-      }) in
-      omega arith
 
   -- all of a part pass, and one of it fails
   pub part_passes : (a b : ℕ) → AllPass test a b → all_below (λ i. test (a + i)) (b - a) ≡ true

@@ -1,105 +1,57 @@
 // The growth of a room: north and south along the column, then west and east by whole columns.
-ghost use Rattle.std.specs.Prelude.{◌≡◌, ◌<◌};
-ghost use Rattle.floor.specs.Floor.{map_of};
-ghost use Rattle.floor.specs.inner.Ready.{SoundFloor};
-ghost use Rattle.rooms.specs.Room.{top_of, bottom_of, column_open, left_of, right_of};
+ghost use Rattle.std.specs.Prelude.{◌≡◌, ◌≤◌, ◌<◌};
+ghost use Rattle.floor.specs.Lent.{floor_map};
+ghost use Rattle.rooms.specs.Room.{column_open, room_of};
+ghost use Rattle.rooms.specs.inner.Runs.{Counts};
 
-// The northernmost row that open cells lead to along the column.
-pub fn north_end(width: usize, height: usize, map: &[u8], column: usize, row: usize) -> usize
-    requires { SoundFloor (map_of width height map.now) }
-    ensures { result ≡ top_of (map_of width height map.now) column row }
-{
-    let mut top = row;
-    while 0 < top {
-        if !floor::cells::open_at(width, height, map, column, top - 1) {
-            return top;
-        }
-        top -= 1;
-    }
-    top
-}
+use crate::Room;
+use floor::{Floor, Spot};
 
-// The southernmost row that open cells lead to along the column.
-pub fn south_end(width: usize, height: usize, map: &[u8], column: usize, row: usize) -> usize
-    requires sound_floor { SoundFloor (map_of width height map.now) }
-    requires row_lt_height { row < height }
-    ensures { result ≡ bottom_of (map_of width height map.now) column row }
+// How many of the first numbers pass a test, up to the first that does not.
+fn run<F: Fn(usize) -> bool>(most: usize, test: F) -> usize
+    requires { (i : _) → i < most → F.pre test i }
+    ensures within { result ≤ most }
+    ensures counts { Counts (F.post test) most result }
 {
-    let mut bottom = row;
-    while bottom + 1 < height {
-        if !floor::cells::open_at(width, height, map, column, bottom + 1) {
-            return bottom;
+    for i in 0..most {
+        if !test(i) {
+            return i;
         }
-        bottom += 1;
     }
-    bottom
+    most
 }
 
 // Whether the whole column from top to bottom is open.
-fn column_open(
-    width: usize,
-    height: usize,
-    map: &[u8],
-    top: usize,
-    bottom: usize,
-    column: usize,
-) -> bool
-    requires sound_floor { SoundFloor (map_of width height map.now) }
-    requires bottom_lt_height { bottom < height }
-    ensures { result ≡ column_open (map_of width height map.now) top bottom column }
+fn column_open(floor: &Floor, top: usize, bottom: usize, column: usize) -> bool
+    ensures { result ≡ column_open (floor_map floor.now) top bottom column }
 {
-    let mut row = top;
-    while row <= bottom {
-        if !floor::cells::open_at(width, height, map, column, row) {
+    for row in top..=bottom {
+        if !floor.open_at(column, row) {
             return false;
         }
-        row += 1;
     }
     true
 }
 
-// The westernmost column that open columns lead to.
-pub fn west_end(
-    width: usize,
-    height: usize,
-    map: &[u8],
-    top: usize,
-    bottom: usize,
-    column: usize,
-) -> usize
-    requires sound_floor { SoundFloor (map_of width height map.now) }
-    requires bottom_lt_height { bottom < height }
-    ensures { result ≡ left_of (map_of width height map.now) top bottom column }
+// The room grown from a cell of the floor.
+pub fn grown(floor: &Floor, spot: Spot) -> Room
+    requires { (spot.column < floor.now.width) × (spot.row < floor.now.height) }
+    ensures { result ≡ room_of (floor_map floor.now) spot.column spot.row }
 {
-    let mut left = column;
-    while 0 < left {
-        if !column_open(width, height, map, top, bottom, left - 1) {
-            return left;
-        }
-        left -= 1;
+    let Spot { column, row } = spot;
+    let north = run(row, |i| floor.open_at(column, row - 1 - i));
+    let south = run(
+        floor.height - 1 - row,
+        |i| floor.open_at(column, row + 1 + i),
+    );
+    let (top, bottom) = (row - north, row + south);
+    let open = |c| column_open(floor, top, bottom, c);
+    let west = run(column, |i| open(column - 1 - i));
+    let east = run(floor.width - 1 - column, |i| open(column + 1 + i));
+    Room {
+        left: column - west,
+        top,
+        right: column + east,
+        bottom,
     }
-    left
-}
-
-// The easternmost column that open columns lead to.
-pub fn east_end(
-    width: usize,
-    height: usize,
-    map: &[u8],
-    top: usize,
-    bottom: usize,
-    column: usize,
-) -> usize
-    requires sound_floor { SoundFloor (map_of width height map.now) }
-    requires bottom_lt_height { (bottom < height) × (column < width) }
-    ensures { result ≡ right_of (map_of width height map.now) top bottom column }
-{
-    let mut right = column;
-    while right + 1 < width {
-        if !column_open(width, height, map, top, bottom, right + 1) {
-            return right;
-        }
-        right += 1;
-    }
-    right
 }

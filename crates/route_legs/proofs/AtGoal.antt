@@ -20,16 +20,18 @@ use Rattle.route_walker.specs.Route as walk
 use Rattle.route_walker.specs.Route.{Walk}
 use Rattle.route_walker.specs.Legs.{Leg, Legs, bytes}
 use Rattle.steps.specs.inner.Ranking.{Ranking}
-use Rattle.route_walker.specs.inner.Walkers.{Run, done, more, next, Stands, Steps, Stepped}
+use Rattle.route_walker.specs.inner.Walkers.{Run, done, more, next, taken, Stands, Steps, Stepped}
 use Rattle.route_walker.proofs.First.{first_there}
-use Rattle.route_walker.proofs.OnFloor.{first_run, no_way}
+use Rattle.route_walker.proofs.OnFloor.{first_run, no_way as none_at_mark}
 use Rattle.route_walker.proofs.Searching.{run_exists}
 use Rattle.route_walker.proofs.Stepping.{next_small}
-use Rattle.route_legs.specs.declared.RouteReading.{RouteReading}
-use Rattle.route_legs.specs.declared.RouteReading.TheVariants as reading
+use Rattle.std.specs.Prelude.{Result, Ok}
+use Rattle.answers.specs.declared.Refusal.{Refusal}
+use Rattle.route_legs.specs.declared.Way.{Way}
 use Rattle.route_legs.specs.Read.{Routes}
 use Rattle.route_legs.specs.inner.Reading.{ReadsRoute}
 use Rattle.route_legs.proofs.LegsOf.{legs_unique, no_legs}
+use Rattle.route_legs.proofs.Readings.{ReadAs, a_way, no_way, no_room, read_as}
 
 module _ (m : Map) (c : SoundFloor m) (goal : ℕ) (on : goal < cells m) (t : List ℕ) (f : Filled (steps_of m) (Only goal) (cells m) t) (o : Ranking) where
   abbrev go : ℕ → ℕ
@@ -38,7 +40,7 @@ module _ (m : Map) (c : SoundFloor m) (goal : ℕ) (on : goal < cells m) (t : Li
   goal_stops : go goal ≡ 8
   goal_stops =
       let (hs, l, r) = run_exists (lead_of m) t o goal in
-      by r (first_there refl (first_run m c goal on t f o on (λ e. no_way m c goal on t f goal on e zero_length (goal, refl, stay)) r)).0
+      by r (first_there refl (first_run m c goal on t f o on (λ e. none_at_mark m c goal on t f goal on e zero_length (goal, refl, stay)) r)).0
     where
       by : {hs : List ℕ} {l : Length} → Run (lead_of m) t o.at goal hs l → hs ≡ [] → go goal ≡ 8
       by (done e) p = e
@@ -56,9 +58,9 @@ module _ (m : Map) (c : SoundFloor m) (goal : ℕ) (on : goal < cells m) (t : Li
     step_at_goal e = d.still (omega (arith, s.ready ∙ ap go e ∙ goal_stops))
 
     pub step_elsewhere : w.cell ≢ goal → get_or t w.cell 0 ≢ 4294967295 → Steps m t o w v
-    step_elsewhere e n = by (ℕ_discrete w.next 8)
+    step_elsewhere e n = by (ℕ_discrete (taken w.next) 8)
       where
-        by : Dec (w.next ≡ 8) → Steps m t o w v
+        by : Dec (taken w.next ≡ 8) → Steps m t o w v
         by (yes p) = absurd (e (stops_there w.cell s.on n (sym s.ready ∙ p)))
         by (no p) = d.moved (omega (arith, next_small m t o w s))
 
@@ -69,12 +71,15 @@ module _ (G : Graph) (Goal : ℕ → Type 0) (rank : ℕ → ℕ) (start : ℕ) 
       (f, legs_unique (subst (λ (hs : List ℕ). Legs hs ls) e r.legs_are) no_legs)
 
   -- start equal to goal gives length (0, 0) and no legs
-  pub reads_there : (old : List ℕ) (r : RouteReading) (new : List ℕ) → ReadsRoute G Goal rank start old r new
-      → (r ≡ reading.Way (record { length = zero_length; legs = 0 })) × (new ≡ old)
-  reads_there old (reading.Way w) new p =
-      let (e, f) = no_step p.route in (
-        ap₂ (λ (l : Length) (n : ℕ). reading.Way (record { length = l; legs = n })) e (p.count ∙ ap length f),
-        p.written ∙ ap (λ (ls : List Leg). bytes ls ++ drop (2 * length ls) old) f,
-      )
-  reads_there old reading.NoWay new p = absurd (p.none zero_length (start, g, stay))
-  reads_there old (reading.NoRoom n) new p = let (e, f) = no_step p.route in absurd (omega (arith, p.short, ap length f))
+  pub reads_there : (old : List ℕ) (r : Result Way Refusal) (new : List ℕ) → ReadsRoute G Goal rank start old r new
+      → (r ≡ Ok (record { length = zero_length; legs = 0 })) × (new ≡ old)
+  reads_there old r new p = by (read_as p)
+    where
+      by : {r : Result Way Refusal} → ReadAs G Goal rank start old r new → (r ≡ Ok (record { length = zero_length; legs = 0 })) × (new ≡ old)
+      by (a_way w p) =
+          let (e, f) = no_step p.route in (
+            ap₂ (λ (l : Length) (n : ℕ). Ok (record { length = l; legs = n })) e (p.count ∙ ap length f),
+            p.written ∙ ap (λ (ls : List Leg). bytes ls ++ drop (2 * length ls) old) f,
+          )
+      by (no_way p) = absurd (p.none zero_length (start, g, stay))
+      by (no_room n p) = let (e, f) = no_step p.route in absurd (omega (arith, p.short, ap length f))

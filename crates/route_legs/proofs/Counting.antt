@@ -4,6 +4,7 @@ use mathlib.Core.List.{List}
 use Prim.Native.Nat.{ℕ, suc, ◌+◌, ◌≤◌}
 use native.Mathlib.Omega.{arith}
 use lib.ListN.{get_or, length}
+use Rattle.std.specs.Prelude.{None}
 use Rattle.lengths.specs.declared.Length.{Length}
 use Rattle.floor.specs.Floor.{Map}
 use Rattle.route_walker.specs.declared.Walker.{Walker}
@@ -37,7 +38,7 @@ module _ (m : Map) (t : List ℕ) (o : Ranking) where
         (js, g, let n : length ks ≡ suc (length js) = ap length f in omega arith);
   }
 
-  pub counting_end : (w v : Walker) (k : ℕ) → Stands m t o w → CountingLegs m t o w v k → 8 ≤ v.next
+  pub counting_end : (w v : Walker) (k : ℕ) → Stands m t o w → CountingLegs m t o w v k → v.next ≡ None
       → Counted m t o w (record { length = v.length; legs = k })
   counting_end w v k s c b = record {
     exact = λ ls total a.

@@ -5,5 +5,6 @@ pub mod LegsAhead
 pub mod Counting
 pub mod Writing
 pub mod Answering
+pub mod Readings
 pub mod Unique
 pub mod AtGoal

@@ -6,6 +6,7 @@ use native.Mathlib.Omega.{arith}
 use native.Mathlib.Numerals.{add-one}
 use lib.ListN.{get_or, length, set, drop, length-set, length-append}
 use lib.Seq.{drop-cons}
+use Rattle.std.specs.Prelude.{None}
 use Rattle.lengths.specs.declared.Length.{Length}
 use Rattle.floor.specs.Floor.{Map}
 use Rattle.route_walker.specs.declared.Walker.{Walker}
@@ -77,10 +78,10 @@ module _ (m : Map) (t : List ℕ) (o : Ranking) where
 
   -- one leg more
   pub writing_more : (w v : Walker) (i : ℕ) (old now new : List ℕ) (r : WalkedLeg) → LegRoom m t o w old → Writing m t o w v i old now → Leads m t o v r
-      → new ≡ set (set now i r.heading) (i + 1) r.count → Writing m t o w r.after (i + 2) old new
+      → new ≡ set (set now i r.heading.number) (i + 1) r.count → Writing m t o w r.after (i + 2) old new
   writing_more w v i old now new r room g d e = record {
     stands = d.going.stands;
-    size = ap length e ∙ length-set (set now i r.heading) (i + 1) r.count ∙ length-set now i r.heading ∙ g.size;
+    size = ap length e ∙ length-set (set now i r.heading.number) (i + 1) r.count ∙ length-set now i r.heading.number ∙ g.size;
     part = λ ls total a. by ls total (room ls total a) (g.part ls total a);
   }
     where
@@ -99,10 +100,10 @@ module _ (m : Map) (t : List ℕ) (o : Ranking) where
             place = let q = length-append p.written (leg_of r ∷ []) in omega (arith, p.place);
             content =
                 e
-                ∙ ap (λ (z : List ℕ). set (set z i r.heading) (i + 1) r.count) (p.content ∙ ap (λ (z : List ℕ). xs ++ z) (two_off old i h))
-                ∙ ap (λ (z : ℕ). set (set (xs ++ (get_or old i 0 ∷ (get_or old (i + 1) 0 ∷ drop (i + 2) old))) z r.heading) (z + 1) r.count) (sym n)
-                ∙ put_two xs (drop (i + 2) old) (get_or old i 0) (get_or old (i + 1) 0) r.heading r.count
-                ∙ sym (append_assoc xs (r.heading ∷ (r.count ∷ [])) (drop (i + 2) old))
+                ∙ ap (λ (z : List ℕ). set (set z i r.heading.number) (i + 1) r.count) (p.content ∙ ap (λ (z : List ℕ). xs ++ z) (two_off old i h))
+                ∙ ap (λ (z : ℕ). set (set (xs ++ (get_or old i 0 ∷ (get_or old (i + 1) 0 ∷ drop (i + 2) old))) z r.heading.number) (z + 1) r.count) (sym n)
+                ∙ put_two xs (drop (i + 2) old) (get_or old i 0) (get_or old (i + 1) 0) r.heading.number r.count
+                ∙ sym (append_assoc xs (r.heading.number ∷ (r.count ∷ [])) (drop (i + 2) old))
                 ∙ ap (λ (z : List ℕ). z ++ drop (i + 2) old) (sym (bytes_append p.written (leg_of r ∷ [])));
           }
 
@@ -111,7 +112,7 @@ module _ (m : Map) (t : List ℕ) (o : Ranking) where
   writing_next w v k old new = let e : 2 * k + 2 ≡ 2 * (k + 1) = omega arith in subst (λ (i : ℕ). Writing m t o w v i old new) e
 
   -- at the goal all legs are written
-  pub writing_end : (w v : Walker) (i : ℕ) (old new : List ℕ) → Writing m t o w v i old new → 8 ≤ v.next → LegsWritten m t o w old new
+  pub writing_end : (w v : Walker) (i : ℕ) (old new : List ℕ) → Writing m t o w v i old new → v.next ≡ None → LegsWritten m t o w old new
   writing_end w v i old new g b ls total a =
       let p = g.part ls total a in
       let (f, u) = ahead_end m t o v g.stands b p.left total p.ahead in

@@ -1,19 +1,22 @@
 // Reading a route from a table that keeps its promise: the first route and its legs.
 #![tactic(auto)]
 
-ghost use Rattle.std.specs.Prelude.{◌≡◌, ◌≢◌, ◌+◌, ◌*◌, ◌/◌, ◌%◌, ◌<◌, ◌≤◌, get_or, length, set};
-ghost use Rattle.floor.specs.Floor.{map_of};
-ghost use Rattle.floor.specs.inner.Ready.{SoundFloor};
+ghost use Rattle.std.specs.Prelude.{◌≡◌, ◌+◌, ◌*◌, ◌/◌, ◌%◌, ◌<◌, ◌≤◌, length, set};
+ghost use Rattle.floor.specs.Floor.{cells};
+ghost use Rattle.floor.specs.Lent.{floor_map};
 ghost use Rattle.steps.specs.Step.{steps_of};
 ghost use Rattle.steps.specs.Way.{Only};
 ghost use Rattle.table_theory.specs.Filled.{Filled};
 ghost use Rattle.steps.specs.inner.Ranking.{numbered};
-ghost use Rattle.route_walker.specs.inner.Walkers.{Readable, Stands, Starts};
+ghost use Rattle.route_walker.specs.inner.Walkers.{Stands};
 ghost use Rattle.route_legs.specs.inner.Reading.{ReadsRoute};
-ghost use Rattle.route_legs.specs.inner.Ahead.{Counted, LegRoom, Wanted, LegsWritten};
+ghost use Rattle.route_legs.specs.inner.Ahead.{Counted, FewLegs, LegRoom, Wanted, LegsWritten};
 
+use answers::Refusal;
+use calls::Ends;
 use lengths::Length;
-use route_walker::Walker;
+use route_walker::{Walk, Walker};
+use steps::Heading;
 use table_theory::MARK;
 
 // A way: its length and how many legs it has.
@@ -23,69 +26,49 @@ pub struct Way {
     pub legs: usize,
 }
 
-// What reading a route answers: a way, no way, or the leg count where the leg buffer is too short for it.
-#[derive(Clone, Copy)]
-pub enum RouteReading {
-    Way(Way),
-    NoWay,
-    NoRoom(usize),
-}
-
 // The way ahead of a walker: its length from the start of the walk, and how many legs it has.
-fn count_legs(start: Walker, width: usize, height: usize, map: &[u8], table: &[u32]) -> Way
-    requires sound_floor { SoundFloor (map_of width height map.now) }
-    requires readable { Readable (map_of width height map.now) table.now }
-    requires stands { Stands (map_of width height map.now) table.now numbered start }
-    ensures { Counted (map_of width height map.now) table.now numbered start result }
+fn count_legs(walk: &Walk, start: Walker) -> Way
+    requires { Stands (floor_map walk.now.floor) walk.now.table.now numbered start }
+    ensures { Counted (floor_map walk.now.floor) walk.now.table.now numbered start result }
 {
     let mut walker = start;
     let mut legs: usize = 0;
-    while walker.next < 8 {
-        let leg = walker.leg(width, height, map, table);
+    while let Some(leg) = walk.leg(walker) {
         walker = leg.after;
         legs += 1;
     }
-    let length = walker.length;
-    Way { length, legs }
+    Way {
+        length: walker.length,
+        legs,
+    }
 }
 
 // A leg's two bytes, put at a place.
-fn put_leg(legs: &mut [u8], at: usize, heading: usize, count: usize)
-    requires { (at + 2 ≤ length legs.old) × ((heading < 8) × (count ≤ 127)) }
-    ensures { legs.new ≡ set (set legs.old at heading) (at + 1) count }
+fn put_leg(legs: &mut [u8], at: usize, heading: Heading, count: usize)
+    requires { (at + 2 ≤ length legs.old) × (count ≤ 127) }
+    ensures { legs.new ≡ set (set legs.old at heading.number) (at + 1) count }
 {
-    legs[at] = heading as u8;
+    legs[at] = heading.number as u8;
     legs[at + 1] = count as u8;
 }
 
 // The legs ahead, written from the front; bytes after the last leg keep their values. They are counted, and their
 // length is summed, as in `count_legs`.
-fn write_legs(
-    start: Walker,
-    width: usize,
-    height: usize,
-    map: &[u8],
-    table: &[u32],
-    legs: &mut [u8],
-) -> Way
-    requires sound_floor { SoundFloor (map_of width height map.now) }
-    requires readable { Readable (map_of width height map.now) table.now }
-    requires stands { Stands (map_of width height map.now) table.now numbered start }
-    requires leg_room { LegRoom (map_of width height map.now) table.now numbered start legs.old }
-    ensures counted { Counted (map_of width height map.now) table.now numbered start result }
-    ensures legs_written { LegsWritten (map_of width height map.now) table.now numbered start legs.old legs.new }
+fn write_legs(walk: &Walk, start: Walker, legs: &mut [u8]) -> Way
+    requires stands { Stands (floor_map walk.now.floor) walk.now.table.now numbered start }
+    requires leg_room { LegRoom (floor_map walk.now.floor) walk.now.table.now numbered start legs.old }
+    ensures counted { Counted (floor_map walk.now.floor) walk.now.table.now numbered start result }
+    ensures legs_written { LegsWritten (floor_map walk.now.floor) walk.now.table.now numbered start legs.old legs.new }
 {
     let mut walker = start;
     let mut count: usize = 0;
-    while walker.next < 8 {
-        let leg = walker.leg(width, height, map, table);
-        put_leg(&mut *legs, 2 * count, leg.heading, leg.count);
+    while let Some(leg) = walk.leg(walker) {
+        put_leg(legs, 2 * count, leg.heading, leg.count);
         walker = leg.after;
         count += 1;
     }
-    let length = walker.length;
     Way {
-        length,
+        length: walker.length,
         legs: count,
     }
 }
@@ -99,54 +82,35 @@ fn steps_of(entry: u32) -> usize
 
 // How many legs a buffer of so many bytes is to be tested for: none if it has two bytes for each step, which is enough;
 // else those ahead, which are counted.
-fn legs_wanted(
-    walker: Walker,
-    width: usize,
-    height: usize,
-    map: &[u8],
-    table: &[u32],
-    start: usize,
-    goal: usize,
-    bytes: usize,
-) -> usize
-    requires sound_floor { SoundFloor (map_of width height map.now) }
-    requires start_bound { (start < height * width) × (goal < height * width) }
-    requires filled { Filled (steps_of (map_of width height map.now)) (Only goal) (height * width) table.now }
-    requires start_nonzero { get_or table.now start 0 ≢ 4294967295 }
-    requires starts { Starts (map_of width height map.now) table.now numbered start walker }
-    ensures { Wanted (map_of width height map.now) table.now numbered walker bytes result }
+fn legs_wanted(walk: &Walk, start: Walker, bytes: usize) -> usize
+    requires stands { Stands (floor_map walk.now.floor) walk.now.table.now numbered start }
+    requires few { FewLegs (floor_map walk.now.floor) walk.now.table.now numbered start }
+    ensures { Wanted (floor_map walk.now.floor) walk.now.table.now numbered start bytes result }
 {
-    if 2 * steps_of(table[start]) <= bytes {
+    if 2 * steps_of(walk.table[start.cell]) <= bytes {
         return 0;
     }
-    let way = count_legs(walker, width, height, map, table);
+    let way = count_legs(walk, start);
     way.legs
 }
 
 // The first route from start to the goal, read from a table that keeps its promise. The goal is the table's: only the
-// promise names it.
-pub fn read_route(
-    width: usize,
-    height: usize,
-    map: &[u8],
-    table: &[u32],
-    start: usize,
-    goal: usize,
-    legs: &mut [u8],
-) -> RouteReading
-    requires sound_floor { SoundFloor (map_of width height map.now) }
-    requires start_bound { (start < height * width) × (goal < height * width) }
-    requires filled { Filled (steps_of (map_of width height map.now)) (Only goal) (height * width) table.now }
-    ensures { ReadsRoute (steps_of (map_of width height map.now)) (Only goal) (λ h. h) start legs.old result legs.new }
+// promise names it. Refusals: NoWay, LegsShort.
+pub fn read_route(ends: &Ends, table: &[u32], legs: &mut [u8]) -> Result<Way, Refusal>
+    requires { Filled (steps_of (floor_map ends.now.goal.floor)) (Only ends.now.goal.cell) (cells (floor_map ends.now.goal.floor)) table.now }
+    ensures { ReadsRoute (steps_of (floor_map ends.now.goal.floor)) (Only ends.now.goal.cell) (λ h. h) ends.now.start legs.old result legs.new }
 {
-    if table[start] == MARK {
-        return RouteReading::NoWay;
+    if table[ends.start] == MARK {
+        return Err(Refusal::NoWay);
     }
-    let walker = route_walker::stand(width, height, map, table, start);
-    let wanted = legs_wanted(walker, width, height, map, table, start, goal, legs.len());
+    let walk = Walk {
+        floor: ends.goal.floor,
+        table,
+    };
+    let start = walk.stand(ends.start);
+    let wanted = legs_wanted(&walk, start, legs.len());
     if legs.len() < 2 * wanted {
-        return RouteReading::NoRoom(wanted);
+        return Err(Refusal::LegsShort(wanted));
     }
-    let way = write_legs(walker, width, height, map, table, &mut *legs);
-    RouteReading::Way(way)
+    Ok(write_legs(&walk, start, legs))
 }

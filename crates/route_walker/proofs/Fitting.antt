@@ -1,13 +1,11 @@
 -- With a filled table a step fits the numbers exactly if it lies on a shortest way, so the reader's run is the greedy
 -- walk. A number is its entry packed, straight × 65,536 + diagonal, with parts below 16,384; so the number here is the
 -- number there with the step added exactly if the entries differ by the step.
-use Rattle.std.proofs.Common.{◌≡◌, ℕ, ◌+◌, ◌%◌, ◌<◌, Bool, true, false, ◌⊎◌, List, ◌∷◌, length, get_or, sym, ap, ◌∙◌, subst, inl, inr, arith}
+use Rattle.std.proofs.Common.{Some, Option, ◌≡◌, ℕ, ◌+◌, ◌%◌, ◌<◌, Bool, true, false, ◌⊎◌, List, ◌∷◌, length, get_or, sym, ap, ◌∙◌, subst, inl, inr, arith}
 use Rattle.lengths.specs.declared.Length.{Length}
 use Rattle.lengths.specs.Order.{◌⊕◌}
 use Rattle.lengths.specs.inner.AtMost.{Within}
 use Rattle.lengths.proofs.Order.{length_ext}
-use Rattle.steps.specs.declared.Lead.{Lead}
-use Rattle.steps.specs.declared.Lead.TheVariants.{To}
 use Rattle.steps.specs.Heading.{weight}
 use Rattle.steps.specs.inner.Ranking.{Ranking}
 use Rattle.steps.specs.Step.{one_step}
@@ -33,9 +31,9 @@ numbers h v u s w e = by (formed u w)
       read_small v s ∙ ap long (length_ext (omega (arith, one_step (h % 2), t.diagonal)) (omega (arith, one_step (h % 2), t.diagonal))),
     )
 
-module _ (G : Graph) (Goal : ℕ → Type 0) (n : ℕ) (lead : ℕ → ℕ → Lead) (t : List ℕ) (o : Ranking)
-    (to_step : (h x y : ℕ) → h < 8 → lead h x ≡ To y → G.Step h x y)
-    (from_step : (h x y : ℕ) → G.Step h x y → (h < 8) × (lead h x ≡ To y))
+module _ (G : Graph) (Goal : ℕ → Type 0) (n : ℕ) (lead : ℕ → ℕ → Option ℕ) (t : List ℕ) (o : Ranking)
+    (to_step : (h x y : ℕ) → h < 8 → lead h x ≡ Some y → G.Step h x y)
+    (from_step : (h x y : ℕ) → G.Step h x y → (h < 8) × (lead h x ≡ Some y))
     (weigh : (h : ℕ) → G.weight h ≡ weight h)
     (inside : (h x y : ℕ) → G.Step h x y → (x < n) × (y < n))
     (size : length t ≡ n)
@@ -63,7 +61,7 @@ module _ (G : Graph) (Goal : ℕ → Type 0) (n : ℕ) (lead : ℕ → ℕ → L
       sum : (m : Length) → get_or t y 0 ≡ pack (long m) → pack (long (m ⊕ weight h)) ≡ get_or t y 0 + cost h
       sum m b = omega arith
 
-  fits_on : (h x y : ℕ) (a : Length) → h < 8 → entry_at t x ≡ long a → lead h x ≡ To y → get_or t x 0 ≡ get_or t y 0 + cost h
+  fits_on : (h x y : ℕ) (a : Length) → h < 8 → entry_at t x ≡ long a → lead h x ≡ Some y → get_or t x 0 ≡ get_or t y 0 + cost h
       → (b : Length) × (entry_at t y ≡ long b) × (entry_at t x ≡ long (b ⊕ G.weight h))
   fits_on h x y a hb p q e =
       let (bx, by) = inside h x y (to_step h x y hb q) in

@@ -1,10 +1,9 @@
 -- The reader on a floor: its run is a walk by permitted steps, with a filled table the first route, and the mark says
 -- that there is no way.
-use Rattle.std.proofs.Common.{◌≡◌, ℕ, ◌+◌, ◌/◌, ◌%◌, ◌<◌, ◌≤◌, false, ◌≢◌, ◌⊎◌, List, get_or, sym, refl, ap, ◌∙◌, subst, inl, inr, arith}
+use Rattle.std.proofs.Common.{Some, ◌≡◌, ℕ, ◌+◌, ◌/◌, ◌%◌, ◌<◌, ◌≤◌, false, ◌≢◌, ◌⊎◌, List, get_or, sym, refl, ap, ◌∙◌, subst, inl, inr, arith}
 use native.Mathlib.Decide.{ℕ_discrete}
 use Rattle.lengths.specs.declared.Length.{Length}
 use Rattle.lengths.specs.inner.AtMost.{Within}
-use Rattle.steps.specs.declared.Lead.TheVariants.{To}
 use Rattle.floor.specs.Floor.{Map, Open, cells}
 use Rattle.floor.specs.inner.Ready.{SoundFloor}
 use Rattle.steps.specs.inner.Leading.{lead_of}
@@ -31,7 +30,7 @@ use Rattle.route_walker.proofs.ShortRuns.{run_short}
 stays_on_floor : (m : Map) (h x y : ℕ) → (steps_of m).Step h x y → (x < cells m) × (y < cells m)
 stays_on_floor m h x y s = (inside (floor m) h x y s, inside (floor m) _ y x (step_back (floor m) h x y s))
 
-pub lands : (m : Map) (h x y : ℕ) → h < 8 → lead_of m h x ≡ To y → y < cells m
+pub lands : (m : Map) (h x y : ℕ) → h < 8 → lead_of m h x ≡ Some y → y < cells m
 lands m h x y b p = (stays_on_floor m h x y (to_step m h x y b p)).1
 
 -- the reader's run is a walk

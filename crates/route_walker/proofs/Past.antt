@@ -1,9 +1,9 @@
 -- A step as the code reads it: where a heading leads is one number off, and for a straight step that the numbers fit
 -- nothing but the ends of the row is left to test.
-use Rattle.std.proofs.Common.{◌≡◌, ℕ, zero, suc, ◌+◌, ◌-◌, ◌*◌, ◌/◌, ◌%◌, ◌<◌, ◌≤◌, Bool, true, false, eqb, leb, List, length, get_or, sym, refl, ap, ◌∙◌, subst, add-mul, div-add-mod', arith, eqb-true, leb-false, leb-true}
+use Rattle.std.specs.Option.{is_some}
+use Rattle.std.proofs.Common.{Option, Some, None, ◌≡◌, ℕ, zero, suc, ◌+◌, ◌-◌, ◌*◌, ◌/◌, ◌%◌, ◌<◌, ◌≤◌, Bool, true, false, eqb, leb, List, length, get_or, sym, refl, ap, ◌∙◌, subst, add-mul, div-add-mod', arith, eqb-true, leb-false, leb-true}
 use mathlib.Core.Bool.{false≢true}
 use borrow.Author.Tests.{eqb-false}
-use Rattle.steps.specs.declared.Lead.TheVariants.{To}
 use Rattle.floor.specs.Floor.{Map, Open, cells}
 use Rattle.floor.specs.inner.Ready.{SoundFloor}
 use Rattle.steps.specs.Heading.{change_of}
@@ -14,33 +14,11 @@ use Rattle.steps.proofs.Headings.{Slope, level, upright, slanted, slope}
 use Rattle.steps.proofs.Leads.{floor, open_column, to_step, from_step}
 use Rattle.route_walker.specs.inner.Walkers.{Differ, InWidth, Readable, cost, fits, past}
 use Rattle.route_walker.proofs.OnFloor.{lands}
-use Rattle.route_walker.proofs.Searching.{cost_straight, fits_yes, yes_fits}
-
--- numbers compared, where the difference was taken modulo 2⁶⁴: off the table, or on it
-module _ (width : ℕ) (t : List ℕ) (x h p to : ℕ) (is : p ≡ past width x h) (small : p ≤ 16642) (wide : width ≤ 128) (few : length t ≤ 16384)
-    (low : to < 18446744073709551616) (wraps : (to + (width + 1)) % 18446744073709551616 ≡ p) where
-  pub differ_off : length t ≤ to → Differ width t x h false
-  differ_off i = record { found = λ e. absurd (false≢true e); none = λ e y j q d. absurd (omega arith) }
-
-  pub differ_on : to < length t → Differ width t x h (eqb (get_or t x 0) (get_or t to 0 + cost h))
-  differ_on i = record {
-    found = λ e. (to, i, omega arith, eqb-true _ _ e);
-    none = λ e y j q d.
-        let same : y ≡ to = omega arith in
-        eqb-false _ _ e (d ∙ ap (λ (z : ℕ). get_or t z 0 + cost h) same);
-  }
-
--- a column compared with the ends of the row
-module _ (width x h k : ℕ) (is : k ≡ x % width + (change_of h).column) where
-  pub before_row : k < 1 → InWidth width x h false
-  before_row i = record { on = λ e. absurd (false≢true e); off = λ e low high. omega arith }
-
-  pub row_end : 1 ≤ k → InWidth width x h (leb k width)
-  row_end i = record { on = λ e. (omega arith, omega (arith, leb-true k width e)); off = λ e low high. omega (arith, leb-false k width e) }
+use Rattle.route_walker.proofs.Searching.{cost_straight, fits_nowhere, fits_yes, yes_fits}
 
 module _ (m : Map) (h x : ℕ) (b : h < 8) where
   -- where a heading leads, as the code counts it
-  pub lead_past : (y : ℕ) → lead_of m h x ≡ To y → y + (m.width + 1) ≡ past m.width x h
+  pub lead_past : (y : ℕ) → lead_of m h x ≡ Some y → y + (m.width + 1) ≡ past m.width x h
   lead_past y p =
       let s = to_step m h x y b p in
       let w = m.width in
@@ -75,7 +53,7 @@ module _ (m : Map) (h x : ℕ) (b : h < 8) where
   -- a straight step whose numbers fit, and that does not leave the row, is permitted: both ends are open, and of a
   -- straight step they are all its cells
   straight_lead : SoundFloor m → (t : List ℕ) → Readable m t → h % 2 ≡ 0 → x < cells m → (y : ℕ) → y < cells m → LandsOn y
-      → get_or t x 0 ≡ get_or t y 0 + cost h → lead_of m h x ≡ To y
+      → get_or t x 0 ≡ get_or t y 0 + cost h → lead_of m h x ≡ Some y
   straight_lead c t r even i y j p d =
       from_step m h x y (by (slope h b) (r.ends x y i j (d ∙ ap (λ (z : ℕ). get_or t y 0 + z) (sym (cost_straight h even)))))
     where
@@ -116,13 +94,16 @@ module _ (m : Map) (h x : ℕ) (b : h < 8) where
             absurd (d.none e y (omega (arith, r.size, lands m h x y b p)) (lead_past y p) s)
 
     module _ (fit : q ≡ true) where
+      straight : eqb (h % 2) 1 ≡ false → h % 2 ≡ 0
+      straight e = let n = eqb-false (h % 2) 1 e in omega arith
+
       -- a straight step, by whether it stays in the row
-      pub fits_straight : h % 2 ≡ 0 → (a : Bool) → InWidth m.width x h a → a ≡ fits (lead_of m) t x h
+      pub fits_straight : eqb (h % 2) 1 ≡ false → (a : Bool) → InWidth m.width x h a → a ≡ fits (lead_of m) t x h
       fits_straight even true s =
           let (y, j, e, g) = d.found fit in
           let (low, high) = s.on refl in
           let k : y < cells m = omega (arith, r.size) in
-          sym (yes_fits (lead_of m) t x h y (straight_lead c t r even i y k (placed y c.some_wide e low high) g) g)
+          sym (yes_fits (lead_of m) t x h y (straight_lead c t r (straight even) i y k (placed y c.some_wide e low high) g) g)
       fits_straight even false s = by (fits (lead_of m) t x h) refl
         where
           by : (f : Bool) → fits (lead_of m) t x h ≡ f → false ≡ f
@@ -132,9 +113,10 @@ module _ (m : Map) (h x : ℕ) (b : h < 8) where
               let v = to_step m h x y b p in
               absurd (s.off refl (omega (arith, v.column.sum)) (omega (arith, v.column.sum, open_column m _ _ v.to)))
 
-      -- a step that is permitted
-      pub fits_led : (y : ℕ) → lead_of m h x ≡ To y → true ≡ fits (lead_of m) t x h
-      fits_led y p =
-          let (z, j, e, g) = d.found fit in
-          let same : z ≡ y = omega (arith, lead_past y p) in
-          sym (yes_fits (lead_of m) t x h y p (g ∙ ap (λ (k : ℕ). get_or t k 0 + cost h) same))
+      -- a diagonal step, by whether it leads anywhere
+      pub fits_diagonal : (a : Option ℕ) → a ≡ lead_of m h x → is_some a ≡ fits (lead_of m) t x h
+      fits_diagonal None e = fits_nowhere (lead_of m) t x h (sym e)
+      fits_diagonal (Some y) e =
+          let (z, j, f, g) = d.found fit in
+          let same : z ≡ y = omega (arith, lead_past y (sym e)) in
+          sym (yes_fits (lead_of m) t x h y (sym e) (g ∙ ap (λ (k : ℕ). get_or t k 0 + cost h) same))

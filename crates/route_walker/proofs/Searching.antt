@@ -1,12 +1,10 @@
 -- The next heading: the first, by an order of the eight, whose step is permitted and fits the table's numbers. Nothing
 -- is asked of the table. The numbers fall with each such step, so the headings come to an end.
-use Rattle.std.proofs.Common.{◌≡◌, ℕ, zero, suc, ◌+◌, ◌-◌, ◌%◌, ◌<◌, ◌≤◌, Bool, true, false, eqb, List, [], ◌∷◌, get_or, sym, refl, ap, ◌∙◌, subst, le_refl, add-one, arith, eq-eqb, eqb-true}
+use Rattle.std.proofs.Common.{Some, None, Option, ◌≡◌, ℕ, zero, suc, ◌+◌, ◌-◌, ◌*◌, ◌%◌, ◌<◌, ◌≤◌, Bool, true, false, eqb, List, [], ◌∷◌, get_or, sym, refl, ap, ◌∙◌, subst, le_refl, add-one, arith, eq-eqb, eqb-true}
 use native.Mathlib.Decide.{ℕ_discrete}
 use Rattle.answers.specs.Bools.{pick}
 use Rattle.lengths.specs.declared.Length.{Length}
 use Rattle.lengths.specs.Order.{zero_length, ◌⊕◌}
-use Rattle.steps.specs.declared.Lead.{Lead}
-use Rattle.steps.specs.declared.Lead.TheVariants.{To, Nowhere}
 use Rattle.steps.specs.Heading.{weight}
 use Rattle.steps.specs.inner.Ranking.{Ranking}
 use Rattle.steps.specs.Step.{one_step}
@@ -40,18 +38,22 @@ module _ (test : ℕ → Bool) (at : ℕ → ℕ) (i n : ℕ) (inv : seek test a
     seek_goes g = let e : test (at i) ≡ false = sym f ∙ g in sym (seek_first h ∙ rw e) ∙ inv
 
 -- two headings at once, the first of them even
-module _ (test : ℕ → Bool) (at : ℕ → ℕ) (i n : ℕ) (inv : seek test at (8 - i) i ≡ n) (even : i % 2 ≡ 0) (h : i < 8)
-    (r : Bool) (f : r ≡ test (at i)) (off : r ≡ false) (q : Bool) (g : q ≡ test (at (i + 1))) where
-  once : seek test at (8 - (i + 1)) (i + 1) ≡ n
-  once = seek_goes test at i n inv h r f off
+module _ (test : ℕ → Bool) (at : ℕ → ℕ) (k n : ℕ) (inv : seek test at (8 - 2 * k) (2 * k) ≡ n) (h : k < 4)
+    (r : Bool) (f : r ≡ test (at (2 * k))) where
+  pub even_found : r ≡ true → at (2 * k) ≡ n
+  even_found = seek_found test at (2 * k) n inv (omega arith) r f
 
-  pub pair_found : q ≡ true → at (i + 1) ≡ n
-  pair_found = seek_found test at (i + 1) n once (omega arith) q g
+  module _ (off : r ≡ false) (q : Bool) (g : q ≡ test (at (2 * k + 1))) where
+    once : seek test at (8 - (2 * k + 1)) (2 * k + 1) ≡ n
+    once = seek_goes test at (2 * k) n inv (omega arith) r f off
 
-  pub pair_goes : q ≡ false → seek test at (8 - (i + 2)) (i + 2) ≡ n
-  pair_goes e =
-      let s : i + 1 + 1 ≡ i + 2 = omega arith in
-      subst (λ (j : ℕ). seek test at (8 - j) j ≡ n) s (seek_goes test at (i + 1) n once (omega arith) q g e)
+    pub odd_found : q ≡ true → at (2 * k + 1) ≡ n
+    odd_found = seek_found test at (2 * k + 1) n once (omega arith) q g
+
+    pub pair_goes : q ≡ false → seek test at (8 - 2 * (k + 1)) (2 * (k + 1)) ≡ n
+    pair_goes e =
+        let s : 2 * k + 1 + 1 ≡ 2 * (k + 1) = omega arith in
+        subst (λ (j : ℕ). seek test at (8 - j) j ≡ n) s (seek_goes test at (2 * k + 1) n once (omega arith) q g e)
 
 -- what a search finds
 data Sought (test : ℕ → Bool) (at : ℕ → ℕ) (k i r : ℕ) : Type 0 where
@@ -78,25 +80,25 @@ sought test at (suc k) i = by (test (at i)) refl (sought test at k (suc i))
         other n c d (yes p) = at_first n e p
         other n c d (no p) = all n (omega arith) d
 
-module _ (lead : ℕ → ℕ → Lead) (table : List ℕ) where
+module _ (lead : ℕ → ℕ → Option ℕ) (table : List ℕ) where
   -- the test, by where the heading leads
-  pub fits_nowhere : (x h : ℕ) → lead h x ≡ Nowhere → false ≡ fits lead table x h
+  pub fits_nowhere : (x h : ℕ) → lead h x ≡ None → false ≡ fits lead table x h
   unfolding fits
   fits_nowhere x h e = rw e
 
-  pub fits_to : (x h y : ℕ) → lead h x ≡ To y → eqb (get_or table x 0) (get_or table y 0 + cost h) ≡ fits lead table x h
+  pub fits_to : (x h y : ℕ) → lead h x ≡ Some y → eqb (get_or table x 0) (get_or table y 0 + cost h) ≡ fits lead table x h
   unfolding fits
   fits_to x h y e = rw e
 
-  pub fits_yes : (x h : ℕ) → fits lead table x h ≡ true → (y : ℕ) × (lead h x ≡ To y) × (get_or table x 0 ≡ get_or table y 0 + cost h)
+  pub fits_yes : (x h : ℕ) → fits lead table x h ≡ true → (y : ℕ) × (lead h x ≡ Some y) × (get_or table x 0 ≡ get_or table y 0 + cost h)
   unfolding fits
   fits_yes x h e = by (lead h x) refl e
     where
-      by : (r : Lead) → lead h x ≡ r → fits_lead table (get_or table x 0) h r ≡ true → (y : ℕ) × (lead h x ≡ To y) × (get_or table x 0 ≡ get_or table y 0 + cost h)
-      by Nowhere p e = absurd (let z : ◌≡◌ {A = ℕ} 0 1 = cc in omega arith)
-      by (To y) p e = (y, p, eqb-true (get_or table x 0) (get_or table y 0 + cost h) e)
+      by : (r : Option ℕ) → lead h x ≡ r → fits_lead table (get_or table x 0) h r ≡ true → (y : ℕ) × (lead h x ≡ Some y) × (get_or table x 0 ≡ get_or table y 0 + cost h)
+      by None p e = absurd (let z : ◌≡◌ {A = ℕ} 0 1 = cc in omega arith)
+      by (Some y) p e = (y, p, eqb-true (get_or table x 0) (get_or table y 0 + cost h) e)
 
-  pub yes_fits : (x h y : ℕ) → lead h x ≡ To y → get_or table x 0 ≡ get_or table y 0 + cost h → fits lead table x h ≡ true
+  pub yes_fits : (x h y : ℕ) → lead h x ≡ Some y → get_or table x 0 ≡ get_or table y 0 + cost h → fits lead table x h ≡ true
   yes_fits x h y p e = sym (fits_to x h y p) ∙ eq-eqb (get_or table x 0) (get_or table y 0 + cost h) e
 
   module _ (o : Ranking) where

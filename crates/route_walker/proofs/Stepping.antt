@@ -1,22 +1,34 @@
 -- The walker's step, and a run of steps by one heading: a leg. Invariants are "for every run from the start, what is
 -- left of it from here".
-use Rattle.std.proofs.Common.{◌≡◌, ℕ, zero, suc, ◌+◌, ◌-◌, ◌%◌, ◌<◌, ◌≤◌, List, ◌∷◌, get_or, sym, refl, ap, ◌∙◌, subst, add-one, arith}
+use Rattle.std.proofs.Common.{Option, Some, None, Bool, true, false, eqb, eqb-true, ◌≡◌, ℕ, zero, suc, ◌+◌, ◌-◌, ◌%◌, ◌<◌, ◌≤◌, List, ◌∷◌, get_or, sym, refl, ap, ◌∙◌, subst, add-one, arith}
+use borrow.Author.Tests.{eqb-false}
+use Rattle.std.specs.Option.{option_eq}
 use Rattle.lengths.specs.declared.Length.{Length}
 use Rattle.lengths.specs.Order.{◌⊕◌, steps}
 use Rattle.lengths.proofs.Order.{length_ext}
-use Rattle.steps.specs.declared.Lead.TheVariants.{To}
 use Rattle.floor.specs.Floor.{Map}
 use Rattle.steps.specs.Heading.{weight}
+use Rattle.steps.specs.declared.heading.Heading.{Heading}
 use Rattle.steps.specs.inner.Ranking.{Ranking}
 use Rattle.floor.specs.inner.Ready.{SoundFloor}
 use Rattle.steps.specs.inner.Leading.{lead_of}
 use Rattle.steps.specs.Step.{one_step}
 use Rattle.route_walker.specs.declared.Walker.{Walker}
 use Rattle.route_walker.specs.Legs.{again}
-use Rattle.route_walker.specs.inner.Walkers.{Run, done, more, cost, fits, next, past, Stands, Steps, Stepped, Split, Walked, Leads}
+use Rattle.route_walker.specs.inner.Walkers.{Run, done, more, cost, fits, next, past, taken, Stands, Steps, Stepped, Split, Walked, Leads}
 use Rattle.route_walker.proofs.OnFloor.{lands, leg_short}
 use Rattle.route_walker.proofs.Past.{lead_past}
 use Rattle.route_walker.proofs.Searching.{Next, stop, goes, next_is, cost_pos, fits_yes, run_exists}
+
+-- the test for another step by the same heading, by the headings' numbers
+module _ (same : Heading → Heading → Bool) (numbers : (j k : Heading) → same j k ≡ eqb j.number k.number) (h : Heading) where
+  pub next_same : (n : Option Heading) → option_eq same n (Some h) ≡ true → taken n ≡ h.number
+  next_same None e = cc
+  next_same (Some k) e = eqb-true _ _ (sym (numbers k h) ∙ e)
+
+  pub next_other : (n : Option Heading) → option_eq same n (Some h) ≡ false → taken n ≡ h.number → ⊥
+  next_other None e f = omega (arith, h.known)
+  next_other (Some k) e f = eqb-false _ _ (sym (numbers k h) ∙ e) f
 
 -- a length with one step more
 pub one_straight : (l : Length) (h : ℕ) → h % 2 ≡ 0 → record { straight = l.straight + 1; diagonal = l.diagonal } ≡ l ⊕ weight h
@@ -27,56 +39,56 @@ one_diagonal l h n = let e : h % 2 ≡ 1 = omega arith in rw e (length_ext (omeg
 
 module _ (m : Map) (t : List ℕ) (o : Ranking) where
   -- the next heading is one of the eight, or 8
-  pub next_small : (w : Walker) → Stands m t o w → w.next ≤ 8
+  pub next_small : (w : Walker) → Stands m t o w → taken w.next ≤ 8
   next_small w s = by (next_is (lead_of m) t o w.cell)
     where
-      by : Next (lead_of m) t o w.cell → w.next ≤ 8
+      by : Next (lead_of m) t o w.cell → taken w.next ≤ 8
       by (stop e all) = omega (arith, s.ready)
       by (goes p f low) = omega (arith, s.ready)
 
   -- the walker's next heading fits, unless it is 8
-  fits_next : (w : Walker) → Stands m t o w → w.next < 8 → (y : ℕ) × (lead_of m w.next w.cell ≡ To y) × (get_or t w.cell 0 ≡ get_or t y 0 + cost w.next)
+  fits_next : (w : Walker) → Stands m t o w → taken w.next < 8 → (y : ℕ) × (lead_of m (taken w.next) w.cell ≡ Some y) × (get_or t w.cell 0 ≡ get_or t y 0 + cost (taken w.next))
   fits_next w s b = by (next_is (lead_of m) t o w.cell)
     where
-      by : Next (lead_of m) t o w.cell → (y : ℕ) × (lead_of m w.next w.cell ≡ To y) × (get_or t w.cell 0 ≡ get_or t y 0 + cost w.next)
+      by : Next (lead_of m) t o w.cell → (y : ℕ) × (lead_of m (taken w.next) w.cell ≡ Some y) × (get_or t w.cell 0 ≡ get_or t y 0 + cost (taken w.next))
       by (stop e all) = absurd (omega (arith, s.ready))
-      by (goes p f low) = fits_yes (lead_of m) t w.cell w.next (ap (fits (lead_of m) t w.cell) s.ready ∙ f)
+      by (goes p f low) = fits_yes (lead_of m) t w.cell (taken w.next) (ap (fits (lead_of m) t w.cell) s.ready ∙ f)
 
   -- so its length has room for a step
-  pub room_to_step : (w : Walker) → Stands m t o w → w.next < 8 → steps w.length + 1 < 4294967296
-  room_to_step w s b = let (y, p, e) = fits_next w s b in omega (arith, s.few, cost_pos w.next)
+  pub room_to_step : (w : Walker) → Stands m t o w → taken w.next < 8 → steps w.length + 1 < 4294967296
+  room_to_step w s b = let (y, p, e) = fits_next w s b in omega (arith, s.few, cost_pos (taken w.next))
 
   -- one step, as the code takes it
-  pub step_still : (w : Walker) → 8 ≤ w.next → Stepped m t o w w
+  pub step_still : (w : Walker) → 8 ≤ taken w.next → Stepped m t o w w
   step_still w h = record { still = λ e. refl; moved = λ b. absurd (omega arith) }
 
-  module _ (w : Walker) (s : Stands m t o w) (b : w.next < 8) where
+  module _ (w : Walker) (s : Stands m t o w) (b : taken w.next < 8) where
     -- where it leads, as the code counts it
-    pub step_led : (p : ℕ) → p ≡ past m.width w.cell w.next → (m.width + 1 ≤ p) × (lead_of m w.next w.cell ≡ To (p - (m.width + 1)))
+    pub step_led : (p : ℕ) → p ≡ past m.width w.cell (taken w.next) → (m.width + 1 ≤ p) × (lead_of m (taken w.next) w.cell ≡ Some (p - (m.width + 1)))
     step_led p e =
         let (y, q, d) = fits_next w s b in
-        let f = lead_past m w.next w.cell b y q in
+        let f = lead_past m (taken w.next) w.cell b y q in
         let g : y ≡ p - (m.width + 1) = omega arith in
-        (omega arith, q ∙ ap To g)
+        (omega arith, q ∙ ap Some g)
 
-    pub step_to : (v : Walker) → lead_of m w.next w.cell ≡ To v.cell → v.length ≡ w.length ⊕ weight w.next
-        → v.next ≡ next (lead_of m) t o.at v.cell → Stepped m t o w v
+    pub step_to : (v : Walker) → lead_of m (taken w.next) w.cell ≡ Some v.cell → v.length ≡ w.length ⊕ weight (taken w.next)
+        → taken v.next ≡ next (lead_of m) t o.at v.cell → Stepped m t o w v
     step_to v q sum ready =
         let (y, p, d) = fits_next w s b in
         let c : y ≡ v.cell = cc in
-        let n : get_or t w.cell 0 ≡ get_or t v.cell 0 + cost w.next = d ∙ ap (λ (i : ℕ). get_or t i 0 + cost w.next) c in
+        let n : get_or t w.cell 0 ≡ get_or t v.cell 0 + cost (taken w.next) = d ∙ ap (λ (i : ℕ). get_or t i 0 + cost (taken w.next)) c in
         let e = ap steps sum in
         record {
           still = λ h. absurd (omega arith);
           moved = λ h. record {
             lead = q;
             sum = sum;
-            falls = omega (arith, cost_pos w.next);
+            falls = omega (arith, cost_pos (taken w.next));
             stands = record {
-              on = lands m w.next w.cell v.cell b q;
+              on = lands m (taken w.next) w.cell v.cell b q;
               ready = ready;
               few = omega
-                  (arith, s.few, cost_pos w.next, one_step (w.next % 2));
+                  (arith, s.few, cost_pos (taken w.next), one_step (taken w.next % 2));
             };
           };
         }
@@ -94,12 +106,12 @@ module _ (m : Map) (t : List ℕ) (o : Ranking) where
   again_more (suc n) h hs = ap (λ (r : List ℕ). h ∷ r) (again_more n h hs)
 
   -- one step of a run
-  run_step : (w v : Walker) → Stands m t o w → w.next < 8 → Steps m t o w v
-      → (hs : List ℕ) (a : Length) → Run (lead_of m) t o.at w.cell hs a → Split m t o w v 1 w.next hs a
+  run_step : (w v : Walker) → Stands m t o w → taken w.next < 8 → Steps m t o w v
+      → (hs : List ℕ) (a : Length) → Run (lead_of m) t o.at w.cell hs a → Split m t o w v 1 (taken w.next) hs a
   run_step w v s b p hs a (done e) = absurd (omega (arith, s.ready))
   run_step w v s b p hs a (more {h = h} {y = y} {hs = ks} {l = d} e c q r) =
-      let f : h ≡ w.next = sym e ∙ sym s.ready in
-      let g : lead_of m w.next w.cell ≡ To y = ap (λ (i : ℕ). lead_of m i w.cell) (sym f) ∙ q in
+      let f : h ≡ taken w.next = sym e ∙ sym s.ready in
+      let g : lead_of m (taken w.next) w.cell ≡ Some y = ap (λ (i : ℕ). lead_of m i w.cell) (sym f) ∙ q in
       let j : y ≡ v.cell = let k = p.lead in cc in
       let us = ap (λ (i : Length). i.straight) p.sum in
       let ud = ap (λ (i : Length). i.diagonal) p.sum in
@@ -114,11 +126,11 @@ module _ (m : Map) (t : List ℕ) (o : Ranking) where
       }
 
   -- while its next heading is h, the walker moves
-  pub moves : (w v : Walker) (h : ℕ) → h < 8 → w.next ≡ h → Stepped m t o w v → Steps m t o w v
+  pub moves : (w v : Walker) (h : ℕ) → h < 8 → taken w.next ≡ h → Stepped m t o w v → Steps m t o w v
   moves w v h b e s = s.moved (subst (λ (i : ℕ). i < 8) (sym e) b)
 
   -- one step more
-  pub going_more : (w v u : Walker) (n h : ℕ) → h < 8 → Walked m t o w v n h → v.next ≡ h → Stepped m t o v u → Walked m t o w u (n + 1) h
+  pub going_more : (w v u : Walker) (n h : ℕ) → h < 8 → Walked m t o w v n h → taken v.next ≡ h → Stepped m t o v u → Walked m t o w u (n + 1) h
   going_more w v u n h b g e d =
       let s = moves v u h b e d in
       record {
@@ -141,19 +153,19 @@ module _ (m : Map) (t : List ℕ) (o : Ranking) where
           }
 
   -- the leg is whole
-  pub going_leads : (c : SoundFloor m) (w v : Walker) (n : ℕ) → w.next < 8 → Stands m t o w → Walked m t o w v n w.next → (v.next ≡ w.next → ⊥)
-      → Leads m t o w (record { heading = w.next; count = n; after = v })
-  going_leads c w v n b s g ends = record {
-    heading = refl;
-    going = g;
-    whole = ends;
+  pub going_leads : (c : SoundFloor m) (w v : Walker) (h : Heading) (n : ℕ) → h.number ≡ taken w.next → Stands m t o w → Walked m t o w v n h.number
+      → (taken v.next ≡ h.number → ⊥) → Leads m t o w (record { heading = h; count = n; after = v })
+  going_leads c w v h n b s g ends = record {
+    heading = b;
+    going = subst (Walked m t o w v n) b g;
+    whole = λ e. ends (e ∙ sym b);
     some = by n g.first;
     short =
         let (hs, a, r) = run_exists (lead_of m) t o w.cell in
         let p = g.split hs a r in
-        leg_short m c n w.next p.rest t o.at (subst (λ (i : List ℕ). Run (lead_of m) t o.at w.cell i a) p.heads r);
+        leg_short m c n h.number p.rest t o.at (subst (λ (i : List ℕ). Run (lead_of m) t o.at w.cell i a) p.heads r);
   }
     where
       by : (i : ℕ) → (i ≡ 0 → v ≡ w) → 0 < i
-      by zero f = absurd (ends (ap (λ (z : Walker). z.next) (f refl)))
+      by zero f = absurd (ends (ap (λ (z : Walker). taken z.next) (f refl) ∙ sym b))
       by (suc i) f = omega arith

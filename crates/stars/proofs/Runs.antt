@@ -8,8 +8,10 @@ use lib.Dec.{eqb, ltb}
 use lib.ListN.{get_or, length}
 use Rattle.lengths.specs.declared.Length.{Length}
 use Rattle.lengths.specs.Order.{zero_length, ◌⊕◌}
-use Rattle.steps.specs.declared.Lead.{Lead}
-use Rattle.steps.specs.declared.Lead.TheVariants.{To, Nowhere}
+use Rattle.std.specs.Prelude.{Option, Some, None, Result, Ok, Err}
+use Rattle.answers.specs.declared.Refusal.{Refusal}
+use Rattle.answers.specs.declared.Refusal.TheVariants as refusal
+use Rattle.answers.specs.Refusing.{gives}
 use Rattle.answers.specs.Bools.{both}
 use Rattle.answers.proofs.Bools.{both_true}
 use Rattle.floor.specs.Floor.{Map, cells}
@@ -23,20 +25,18 @@ use Rattle.table_theory.specs.Filled.{Filled}
 use Rattle.route_walker.specs.Legs.{Leg, Proper, OtherFirst, join}
 use Rattle.route_walker.specs.inner.Walkers.{Run, done, more, next}
 use Rattle.route_walker.proofs.OnFloor.{first_run}
-use Rattle.route_legs.specs.declared.RouteReading.{RouteReading}
-use Rattle.route_legs.specs.declared.RouteReading.TheVariants as reading
+use Rattle.route_legs.specs.declared.Way.{Way}
 use Rattle.route_legs.specs.inner.Reading.{ReadsRoute}
 use Rattle.route_legs.proofs.Answering.{reads_no_way}
-use Rattle.route.specs.Answers.{answer_gives, Routed, way, no_way}
-use Rattle.route.specs.inner.Answering.{read_answer}
+use Rattle.route.specs.Answers.{way_given, Routed, way, no_way}
 use Rattle.stars.specs.Starred.{written}
 
 -- these are the reader's headings from x
-abbrev onward : Lead → (ℕ → Bool) → Bool
-onward Nowhere k = false
-onward (To y) k = k y
+abbrev onward : Option ℕ → (ℕ → Bool) → Bool
+onward None k = false
+onward (Some y) k = k y
 
-abbrev runs? : (ℕ → ℕ → Lead) → List ℕ → ℕ → List ℕ → Bool
+abbrev runs? : (ℕ → ℕ → Option ℕ) → List ℕ → ℕ → List ℕ → Bool
 runs? lead t x [] = eqb (next lead t (λ i. i) x) 8
 runs? lead t x (h ∷ hs) = both (eqb (next lead t (λ i. i) x) h) (both (ltb h 8) (onward (lead h x) (λ y. runs? lead t y hs)))
 
@@ -45,17 +45,17 @@ abbrev pub length_of : List ℕ → Length
 length_of [] = zero_length
 length_of (h ∷ hs) = length_of hs ⊕ weight h
 
-runs : (lead : ℕ → ℕ → Lead) (t : List ℕ) (x : ℕ) (hs : List ℕ) → runs? lead t x hs ≡ true → Run lead t (λ i. i) x hs (length_of hs)
+runs : (lead : ℕ → ℕ → Option ℕ) (t : List ℕ) (x : ℕ) (hs : List ℕ) → runs? lead t x hs ≡ true → Run lead t (λ i. i) x hs (length_of hs)
 runs lead t x [] e = done (eqb-true _ _ e)
 runs lead t x (h ∷ hs) e =
     let (p, q) = both_true (eqb (next lead t (λ i. i) x) h) _ e in
     let (b, r) = both_true (ltb h 8) _ q in
     on (lead h x) refl (eqb-true _ _ p) (ltb-true h 8 b) r (λ y. runs lead t y hs)
   where
-    on : (v : Lead) → lead h x ≡ v → next lead t (λ i. i) x ≡ h → h < 8 → onward v (λ y. runs? lead t y hs) ≡ true
+    on : (v : Option ℕ) → lead h x ≡ v → next lead t (λ i. i) x ≡ h → h < 8 → onward v (λ y. runs? lead t y hs) ≡ true
         → ((y : ℕ) → runs? lead t y hs ≡ true → Run lead t (λ i. i) y hs (length_of hs)) → Run lead t (λ i. i) x (h ∷ hs) (length_of hs ⊕ weight h)
-    on Nowhere v p b r rest = absurd (false≢true r)
-    on (To y) v p b r rest = more p b v (rest y r)
+    on None v p b r rest = absurd (false≢true r)
+    on (Some y) v p b r rest = more p b v (rest y r)
 
 -- each leg is a longest run
 abbrev turns? : ℕ → List Leg → Bool
@@ -78,14 +78,14 @@ proper (a ∷ ls) e =
     (ltb-true 0 a.count p, (turns a.heading ls r, proper ls s))
 
 -- what a case states is what the reader does from x: at the mark no way, and no legs; else the way with these legs
-abbrev pub reads? : (ℕ → ℕ → Lead) → List ℕ → ℕ → (none : Bool) → List Leg → Bool
+abbrev pub reads? : (ℕ → ℕ → Option ℕ) → List ℕ → ℕ → (none : Bool) → List Leg → Bool
 reads? lead t x true [] = eqb (get_or t x 0) 4294967295
 reads? lead t x true (a ∷ ls) = false
 reads? lead t x false legs = both (not (eqb (get_or t x 0) 4294967295)) (both (runs? lead t x (join legs)) (proper? legs))
 
-abbrev pub reading_of : (none : Bool) → List Leg → RouteReading
-reading_of true legs = reading.NoWay
-reading_of false legs = reading.Way (record { length = length_of (join legs); legs = length legs })
+abbrev pub reading_of : (none : Bool) → List Leg → Result Way Refusal
+reading_of true legs = Err refusal.NoWay
+reading_of false legs = Ok (record { length = length_of (join legs); legs = length legs })
 
 module _ (m : Map) (c : SoundFloor m) (goal : ℕ) (on : goal < cells m) (t : List ℕ) (f : Filled (steps_of m) (Only goal) (cells m) t) (start : ℕ)
     (b : start < cells m) where
@@ -111,6 +111,6 @@ module _ (m : Map) (c : SoundFloor m) (goal : ℕ) (on : goal < cells m) (t : Li
 -- what reading answers is what the call gives
 pub routed : (m : Map) (goal start : ℕ) (old new : List ℕ) (none : Bool) (legs : List Leg)
     → ReadsRoute (steps_of m) (Only goal) (λ h. h) start old (reading_of none legs) new
-    → Routed (steps_of m) (Only goal) start old (answer_gives (read_answer (reading_of none legs))) new
+    → Routed (steps_of m) (Only goal) start old (gives way_given (reading_of none legs)) new
 routed m goal start old new true legs p = no_way p refl
 routed m goal start old new false legs p = way _ p refl

@@ -9,11 +9,13 @@ use native.Mathlib.Omega.{arith}
 use borrow.Author.Tests.{eqb-true, eq-eqb, ltb-true, not-true}
 use lib.Dec.{eqb, ltb}
 use lib.ListN.{get_or, length}
-use Rattle.answers.specs.declared.Tested.{Tested}
-use Rattle.answers.specs.declared.Tested.TheVariants.{Passed, Refused}
-use Rattle.answers.specs.Refusing.{done, refused, gives}
+use Rattle.std.specs.Prelude.{Ok, Err}
+use Rattle.answers.specs.declared.Refusal.TheVariants.{TableWrong}
+use Rattle.answers.specs.Numbers.{number_of, place_of}
+use Rattle.answers.specs.Refusing.{Tested, done, refused, gives, no_values}
 use Rattle.answers.specs.Bools.{both, all_below}
 use Rattle.answers.proofs.Bools.{both_true, all_at}
+use Rattle.answers.proofs.Numbers.{told_apart}
 use Rattle.floor.specs.Floor.{Map, cells}
 use Rattle.floor.specs.inner.Ready.{SoundFloor}
 use Rattle.steps.specs.inner.Leading.{lead_of}
@@ -35,8 +37,8 @@ right? m goal t x =
 
 -- the verdict is the answer
 abbrev pub verdict? : (ℕ → Bool) → ℕ → Tested → Bool
-verdict? test n Passed = all_below test n
-verdict? test n (Refused f) = both (eqb f.number 11) (both (ltb f.place n) (both (all_below test f.place) (not (test f.place))))
+verdict? test n (Ok u) = all_below test n
+verdict? test n (Err f) = both (eqb (number_of f) 11) (both (ltb (place_of f) n) (both (all_below test (place_of f)) (not (test (place_of f)))))
 
 module _ (m : Map) (goal : ℕ) (t : List ℕ) where
   abbrev RightAt : ℕ → Type 0
@@ -61,15 +63,15 @@ module _ (m : Map) (goal : ℕ) (t : List ℕ) where
   all_right : (n : ℕ) → all_below (right? m goal t) n ≡ true → (x : ℕ) → x < n → RightAt x
   all_right n e x h = is_right x (all_at (right? m goal t) n e x h)
 
-  pub verdict : (n : ℕ) (r : Tested) → verdict? (right? m goal t) n r ≡ true → Verdict RightAt n (Unit {0}) (λ g. g ≡ done []) (gives r)
-  verdict n Passed e = right (record { within = omega arith; before = all_right n e; wrong = λ h. absurd (omega arith) }) refl
-  verdict n (Refused f) e =
-      let (eleven, d) = both_true (eqb f.number 11) _ e in
-      let (p, q) = both_true (ltb f.place n) _ d in
-      let (s, u) = both_true (all_below (right? m goal t) f.place) _ q in
-      let h = ltb-true f.place n p in
-      differs f.place h (record { within = omega arith; before = all_right f.place s; wrong = λ k. is_wrong f.place (not-true _ u) })
-      (ap (λ (k : ℕ). refused (record { number = k; place = f.place })) (eqb-true f.number 11 eleven)) tt
+  pub verdict : (n : ℕ) (r : Tested) → verdict? (right? m goal t) n r ≡ true → Verdict RightAt n (Unit {0}) (λ g. g ≡ done []) (gives no_values r)
+  verdict n (Ok u) e = right (record { within = omega arith; before = all_right n e; wrong = λ h. absurd (omega arith) }) refl
+  verdict n (Err f) e =
+      let (eleven, d) = both_true (eqb (number_of f) 11) _ e in
+      let (p, q) = both_true (ltb (place_of f) n) _ d in
+      let (s, u) = both_true (all_below (right? m goal t) (place_of f)) _ q in
+      let h = ltb-true (place_of f) n p in
+      differs (place_of f) h (record { within = omega arith; before = all_right (place_of f) s; wrong = λ k. is_wrong (place_of f) (not-true _ u) })
+      (ap refused (told_apart f (TableWrong (place_of f)) (eqb-true (number_of f) 11 eleven) refl)) tt
 
   pub filled : SoundFloor m → goal < cells m → length t ≡ cells m → all_below (right? m goal t) (cells m) ≡ true → Filled (steps_of m) (Only goal) (cells m) t
   filled s on size e =

@@ -1,22 +1,22 @@
 -- The worked cases that are proved: one list, and what is said of each. A case holds if every answer,
 -- and all that is left in table and leg buffer, that meets the promise of the entry point at these inputs is what the
 -- case states.
-use Rattle.std.specs.Prelude.{◌≡◌, List, [], ◌∷◌, ◌++◌, ℕ, ◌*◌, ◌≤◌, length, drop}
-use Rattle.answers.specs.declared.Tested.{Tested}
-use Rattle.answers.specs.Refusing.{Given, done, refused, bare, gives}
+use Rattle.std.specs.Prelude.{◌≡◌, Bool, List, [], ◌∷◌, ◌++◌, ℕ, ◌*◌, ◌≤◌, length, drop, Result}
+use Rattle.answers.specs.declared.Refusal.{Refusal}
+use Rattle.answers.specs.declared.Refusal.TheVariants.{NoWay, TableWrong}
+use Rattle.answers.specs.Refusing.{Tested, Given, done, refused, gives, no_values}
 use Rattle.lengths.specs.declared.Length.{Length}
-use Rattle.lengths.specs.declared.Compared.{Compared}
-use Rattle.lengths.specs.declared.Distance.{Distance}
-use Rattle.lengths.specs.Answers.{compared_gives, Compares, distance_gives, Speaks}
-use Rattle.rooms.specs.declared.Roomed.{Roomed}
-use Rattle.floor.specs.Floor.{Map, Spot, map_of, spot_of, cells}
-use Rattle.calls.specs.Calls.{ToGoal, Route}
-use Rattle.rooms.specs.Answers.{roomed_gives, Rooms}
+use Rattle.lengths.specs.Answers.{order_given, Compares, centimetres_given, Speaks}
+use Rattle.floor.specs.declared.Spot.{Spot}
+use Rattle.floor.specs.Floor.{Map, map_of, spot_of, cells}
+use Rattle.calls.specs.Calls.{to_goal, route}
+use Rattle.rooms.specs.declared.Room.{Room}
+use Rattle.rooms.specs.Answers.{corners_given, Rooms}
 use Rattle.table_theory.specs.Entry.{mark, long, pack}
 use Rattle.table.specs.Answers.{Fills, Checks}
 use Rattle.route_walker.specs.Legs.{Leg, bytes}
-use Rattle.route.specs.declared.Answer.{Answer}
-use Rattle.route.specs.Answers.{answer_gives, Finds}
+use Rattle.route_legs.specs.declared.Way.{Way}
+use Rattle.route.specs.Answers.{way_given, Finds}
 
 -- which job is called, with what, and what comes of it
 pub data Case : Type 0 where
@@ -31,24 +31,17 @@ pub data Case : Type 0 where
 abbrev pub written : List Leg → List ℕ → List ℕ
 written legs buffer = bytes legs ++ drop (2 * length legs) buffer
 
--- what a call to a goal, and a call for a route, are asked
-abbrev pub to_goal : Map → (goal : Spot) → ToGoal
-to_goal m goal = record { map = m; goal = goal }
-
-abbrev pub route : Map → (start goal : Spot) → Route
-route m start goal = record { map = m; start = start; goal = goal }
-
 -- a table of the right size, whatever it held, and any leg buffer with room for the legs are lent
 abbrev pub Holds : Case → Type 0
-Holds (compare a b given) = (r : Compared) → Compares a b r → compared_gives r ≡ given
-Holds (distance size l given) = (r : Distance) → Speaks size l r → distance_gives r ≡ given
-Holds (room m s given) = (r : Roomed) → Rooms m s r → roomed_gives r ≡ given
+Holds (compare a b given) = (r : Result Bool Refusal) → Compares a b r → gives order_given r ≡ given
+Holds (distance size l given) = (r : Result ℕ Refusal) → Speaks size l r → gives centimetres_given r ≡ given
+Holds (room m s given) = (r : Result Room Refusal) → Rooms m s r → gives corners_given r ≡ given
 Holds (fill m goal table) =
-    (r : Tested) (old new : List ℕ) → length old ≡ cells m → Fills (to_goal m goal) old r new → (gives r ≡ done []) × (new ≡ table)
-Holds (check m goal table given) = (r : Tested) → Checks (to_goal m goal) table r → gives r ≡ given
+    (r : Tested) (old new : List ℕ) → length old ≡ cells m → Fills (to_goal m goal) old r new → (gives no_values r ≡ done []) × (new ≡ table)
+Holds (check m goal table given) = (r : Tested) → Checks (to_goal m goal) table r → gives no_values r ≡ given
 Holds (find m start goal given legs table) =
-    (r : Answer) (old new buffer buffer' : List ℕ) → length old ≡ cells m → 2 * length legs ≤ length buffer
-    → Finds (route m start goal) old buffer r new buffer' → (answer_gives r ≡ given) × (new ≡ table) × (buffer' ≡ written legs buffer)
+    (r : Result Way Refusal) (old new buffer buffer' : List ℕ) → length old ≡ cells m → 2 * length legs ≤ length buffer
+    → Finds (route m start goal) old buffer r new buffer' → (gives way_given r ≡ given) × (new ≡ table) × (buffer' ≡ written legs buffer)
 
 abbrev pub All : List Case → Type 0
 All [] = Unit {0}
@@ -64,13 +57,9 @@ entry straight diagonal = pack (long (pair straight diagonal))
 abbrev pub leg : ℕ → ℕ → Leg
 leg heading count = record { heading = heading; count = count }
 
--- a refusal with nothing but its number
-abbrev pub refusal : ℕ → Given
-refusal n = refused (bare n)
-
 -- 11 with the first cell that differs
 abbrev pub differing : ℕ → Given
-differing cell = refused (record { number = 11; place = cell })
+differing cell = refused (TableWrong cell)
 
 -- floor A is 5 wide, 3 high, bytes 0, 4, 0
 abbrev pub floor_a : Map
@@ -94,9 +83,9 @@ cases =
     ∷ fill floor_a (spot_of 4 1) table_a
     ∷ check floor_a (spot_of 4 1) table_a (done [])
     ∷ check floor_a (spot_of 4 1) (table_with (entry 2 1)) (differing 5)
-    ∷ find (map_of 2 2 (2 ∷ 1 ∷ [])) (spot_of 0 0) (spot_of 1 1) (refusal 9) [] (pack mark ∷ pack mark ∷ pack mark ∷ entry 0 0 ∷ [])
+    ∷ find (map_of 2 2 (2 ∷ 1 ∷ [])) (spot_of 0 0) (spot_of 1 1) (refused NoWay) [] (pack mark ∷ pack mark ∷ pack mark ∷ entry 0 0 ∷ [])
     ∷ find (map_of 2 2 (2 ∷ 0 ∷ [])) (spot_of 0 0) (spot_of 1 1) (done (2 ∷ 0 ∷ 2 ∷ [])) (leg 4 1 ∷ leg 2 1 ∷ []) (entry 2 0 ∷ pack mark ∷ entry 1 0 ∷ entry 0 0 ∷ [])
-    ∷ find (map_of 3 1 (2 ∷ [])) (spot_of 0 0) (spot_of 2 0) (refusal 9) [] (pack mark ∷ pack mark ∷ entry 0 0 ∷ [])
+    ∷ find (map_of 3 1 (2 ∷ [])) (spot_of 0 0) (spot_of 2 0) (refused NoWay) [] (pack mark ∷ pack mark ∷ entry 0 0 ∷ [])
     ∷ room floor_a (spot_of 0 1) (done (0 ∷ 0 ∷ 1 ∷ 2 ∷ []))
     ∷ room floor_a (spot_of 2 0) (done (0 ∷ 0 ∷ 4 ∷ 0 ∷ []))
     ∷ compare (pair 140 0) (pair 0 99) (done (1 ∷ []))

@@ -1,46 +1,30 @@
--- What each way out of filling and of checking shows.
-use mathlib.Core.Path.{◌≡◌, refl, subst}
-use mathlib.Core.Bool.{Bool, true, false}
-use mathlib.Core.List.{List, []}
+-- What filling and checking have done at the cell of the goal, said of the goal's place.
+use mathlib.Core.Path.{refl, subst}
+use mathlib.Core.List.{List}
 use Prim.Native.Nat.{ℕ}
-use native.Mathlib.Omega.{arith}
-use borrow.Author.Tests.{ltb-true, ltb-false}
-use lib.Dec.{ltb}
-use lib.ListN.{length}
-use Rattle.answers.specs.declared.Tested.{Tested}
-use Rattle.answers.specs.declared.Tested.TheVariants.{Passed, Refused}
-use Rattle.answers.specs.Refusing.{done, refuse_at, first_refusal, gives}
-use Rattle.answers.specs.Bools.{pick}
-use Rattle.answers.proofs.Refusals.{work_done}
-use Rattle.floor.specs.Floor.{cells, spot_cell}
-use Rattle.calls.specs.Calls.{ToGoal, goal_tests}
+use Rattle.std.specs.Prelude.{Some}
+use Rattle.answers.specs.declared.Refusal.TheVariants.{TableWrong}
+use Rattle.answers.specs.Refusing.{Given, refused}
+use Rattle.floor.specs.Floor.{Map, cells, spot_cell}
+use Rattle.floor.specs.declared.Spot.{Spot}
+use Rattle.floor.specs.Lent.{floor_map}
+use Rattle.calls.specs.declared.ends.Goal.{Goal}
+use Rattle.calls.specs.inner.Tested.{Aimed}
 use Rattle.steps.specs.Way.{Only}
 use Rattle.steps.specs.Step.{steps_of}
-use Rattle.calls.proofs.Called.{goal_ready}
-use Rattle.table_theory.specs.Filled.{Filled}
-use Rattle.table_theory.specs.Made.{Right, Judged}
-use Rattle.table.specs.Answers.{Fills, Checks, Verdict, differs, right}
+use Rattle.table_theory.specs.Made.{Right}
+use Rattle.table_theory.specs.inner.First.{FirstWrong}
+use Rattle.table.specs.Answers.{Verdict, differs}
 
-module _ (a : ToGoal) (t : List ℕ) (tested : Tested) (e : tested ≡ first_refusal (goal_tests a (length t))) (p : tested ≡ Passed)
-    (x : ℕ) (at : x ≡ spot_cell a.map a.goal) where
-  pub fill_done : (new : List ℕ) → Filled (steps_of a.map) (Only x) (cells a.map) new → Fills a t Passed new
-  fill_done new f = work_done _ tested _ e p (refl, rw at at f)
+module _ (m : Map) (s : Spot) (entries : ℕ) (g : Goal) (aimed : Aimed m s entries g) where
+  -- what is so of the floor and its cell is so of the map and the place
+  pub at_place : (P : Map → ℕ → Type 0) → P (floor_map g.floor) g.cell → P m (spot_cell m s)
+  at_place P p = rw aimed.cell at (subst (λ (n : Map). P n g.cell) aimed.map p)
 
-  -- checking's verdict is that of the first cell whose entry is not right
-  pub judged : (y : ℕ) → Judged (Right (steps_of a.map) (Only x) t) (cells a.map) y → (r : Tested) → r ≡ refuse_at 11 y (ltb y (length t)) → Checks a t r
-  unfolding refuse_at
-  judged y j r f = work_done _ tested (gives r) e p (rw f (by (ltb y (length t)) refl))
-    where
-      RightAt : ℕ → Type 0
-      RightAt = Right (steps_of a.map) (Only (spot_cell a.map a.goal)) t
-
-      size : length t ≡ cells a.map
-      size = (goal_ready a (length t) tested e p).fitting.size
-
-      at_goal : Judged RightAt (cells a.map) y
-      at_goal = rw at at j
-
-      by : (b : Bool) → ltb y (length t) ≡ b
-          → Verdict RightAt (cells a.map) (Unit {0}) (λ g. g ≡ done []) (gives (pick b (Refused (record { number = 11; place = y })) Passed))
-      by true h = differs y (omega (arith, ltb-true y (length t) h, size)) at_goal refl tt
-      by false h = right (subst (Judged RightAt (cells a.map)) (omega (arith, ltb-false y (length t) h, size, j.within)) at_goal) refl
+  -- the lowest cell that is not right is the verdict
+  pub found_wrong : {K : Type 0} {T : Given → Type 0} (t : List ℕ) (x : ℕ)
+      → FirstWrong (Right (steps_of (floor_map g.floor)) (Only g.cell) t) (cells (floor_map g.floor)) (Some x) → K
+      → Verdict (Right (steps_of m) (Only (spot_cell m s)) t) (cells m) K T (refused (TableWrong x))
+  found_wrong t x w k =
+      let (under, judged) = at_place (λ n y. FirstWrong (Right (steps_of n) (Only y) t) (cells n) (Some x)) w in
+      differs x under judged refl k

@@ -10,8 +10,7 @@ use Rattle.answers.specs.Bools.{pick}
 use Rattle.lengths.specs.declared.Length.{Length}
 use Rattle.lengths.specs.Order.{zero_length, ◌⊕◌, ◌⊑◌, shorter}
 use Rattle.lengths.proofs.Order.{◌⊏◌, ⊑_refl, ⊑_trans, ⊏-⊑, ⊑_antisym, shorter_yes, shorter_no}
-use Rattle.steps.specs.declared.Lead.{Lead}
-use Rattle.steps.specs.declared.Lead.TheVariants.{To, Nowhere}
+use Rattle.std.specs.Prelude.{Option, Some, None}
 use Rattle.steps.specs.Heading.{weight}
 use Rattle.steps.specs.Step.{one_step}
 use Rattle.steps.specs.Way.{Graph}
@@ -21,8 +20,8 @@ use Rattle.table_theory.specs.inner.Best.{further, offer, lesser, best, made}
 use Rattle.table_theory.proofs.Neighbours.{no_mark, long_inj}
 
 -- the steps of k headings
-abbrev pub graph : ℕ → (ℕ → ℕ → Lead) → Graph
-graph k lead = record { Step = λ h x y. (h < k) × (lead h x ≡ To y); weight = weight; one = λ h. one_step (h % 2) }
+abbrev pub graph : ℕ → (ℕ → ℕ → Option ℕ) → Graph
+graph k lead = record { Step = λ h x y. (h < k) × (lead h x ≡ Some y); weight = weight; one = λ h. one_step (h % 2) }
 
 -- the mark is above every length
 abbrev pub NotAbove : Entry → Entry → Type 0
@@ -52,7 +51,7 @@ lesser_is mark f = (tt, at_most_refl f, inr refl)
 lesser_is (long a) mark = (⊑_refl a, tt, inl refl)
 lesser_is (long a) (long b) = picked (shorter b a) a b (shorter_yes b a) (shorter_no b a)
 
-module _ (lead : ℕ → ℕ → Lead) (T : ℕ → Entry) (x : ℕ) where
+module _ (lead : ℕ → ℕ → Option ℕ) (T : ℕ → Entry) (x : ℕ) where
   abbrev pub offered : ℕ → Entry
   offered h = offer T (weight h) (lead h x)
 
@@ -81,16 +80,16 @@ module _ (lead : ℕ → ℕ → Lead) (T : ℕ → Entry) (x : ℕ) where
       by (inl p) (inr r) = inr (r.0, omega arith, p ∙ r.2)
 
   -- an offer that is a length
-  pub taken : (h : ℕ) (m : Lead) (l : Length) → long l ≡ offer T (weight h) m → (y : ℕ) × (n : Length) × (m ≡ To y) × (T y ≡ long n) × (l ≡ n ⊕ weight h)
-  taken h Nowhere l p = absurd (no_mark p)
-  taken h (To y) l p = by (T y) refl p
+  pub taken : (h : ℕ) (m : Option ℕ) (l : Length) → long l ≡ offer T (weight h) m → (y : ℕ) × (n : Length) × (m ≡ Some y) × (T y ≡ long n) × (l ≡ n ⊕ weight h)
+  taken h None l p = absurd (no_mark p)
+  taken h (Some y) l p = by (T y) refl p
     where
-      by : (e : Entry) → T y ≡ e → long l ≡ further e (weight h) → (z : ℕ) × (n : Length) × (To y ≡ To z) × (T z ≡ long n) × (l ≡ n ⊕ weight h)
+      by : (e : Entry) → T y ≡ e → long l ≡ further e (weight h) → (z : ℕ) × (n : Length) × (Some y ≡ Some z) × (T z ≡ long n) × (l ≡ n ⊕ weight h)
       by mark q r = absurd (no_mark r)
       by (long n) q r = (y, n, refl, q, long_inj r)
 
   best_mark : (k : ℕ) → best lead T x k ≡ mark → Least (graph k lead) T x mark
-  best_mark k p h y s = by (T y) refl (subst (λ (m : Lead). NotAbove mark (offer T (weight h) m)) s.1
+  best_mark k p h y s = by (T y) refl (subst (λ (m : Option ℕ). NotAbove mark (offer T (weight h) m)) s.1
       (subst (λ (e : Entry). NotAbove e (offered h)) p (best_least k h s.0)))
     where
       by : (e : Entry) → T y ≡ e → NotAbove mark (further (T y) (weight h)) → T y ≡ mark
@@ -101,23 +100,23 @@ module _ (lead : ℕ → ℕ → Lead) (T : ℕ → Entry) (x : ℕ) where
   best_len k l p = (some (best_some k), all)
     where
       some : (best lead T x k ≡ mark) ⊎ ((h : ℕ) × (h < k) × (best lead T x k ≡ offered h))
-          → (h : ℕ) × (y : ℕ) × (n : Length) × ((h < k) × (lead h x ≡ To y)) × (T y ≡ long n) × (l ≡ n ⊕ weight h)
+          → (h : ℕ) × (y : ℕ) × (n : Length) × ((h < k) × (lead h x ≡ Some y)) × (T y ≡ long n) × (l ≡ n ⊕ weight h)
       some (inl q) = absurd (no_mark (sym p ∙ q))
       some (inr r) =
           let (h, b, q) = r in
           let (y, n, a, c, e) = taken h (lead h x) l (sym p ∙ q) in (h, y, n, (b, a), c, e)
 
-      all : (h y : ℕ) (m : Length) → (h < k) × (lead h x ≡ To y) → T y ≡ long m → l ⊑ m ⊕ weight h
+      all : (h y : ℕ) (m : Length) → (h < k) × (lead h x ≡ Some y) → T y ≡ long m → l ⊑ m ⊕ weight h
       all h y m s q =
           subst (λ (e : Entry). NotAbove (long l) (further e (weight h))) q
-          (subst (λ (v : Lead). NotAbove (long l) (offer T (weight h) v)) s.1
+          (subst (λ (v : Option ℕ). NotAbove (long l) (offer T (weight h) v)) s.1
           (subst (λ (e : Entry). NotAbove e (offered h)) p (best_least k h s.0)))
 
   pub best_is : (k : ℕ) (e : Entry) → best lead T x k ≡ e → Least (graph k lead) T x e
   best_is k mark p = best_mark k p
   best_is k (long l) p = best_len k l p
 
-pub made_is : (lead : ℕ → ℕ → Lead) (goal : ℕ → Bool) (T : ℕ → Entry) (k x : ℕ) → Made (graph k lead) (λ z. Holds (goal z)) T x (made lead goal T k x)
+pub made_is : (lead : ℕ → ℕ → Option ℕ) (goal : ℕ → Bool) (T : ℕ → Entry) (k x : ℕ) → Made (graph k lead) (λ z. Holds (goal z)) T x (made lead goal T k x)
 made_is lead goal T k x = by (goal x) refl
   where
     by : (t : Bool) → goal x ≡ t → Made (graph k lead) (λ z. Holds (goal z)) T x (pick t (long zero_length) (best lead T x k))

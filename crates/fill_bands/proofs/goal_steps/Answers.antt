@@ -4,11 +4,9 @@ use Rattle.fill_bands.proofs.FirstBand.{in_band}
 use Rattle.fill_bands.proofs.OnePass.{one_more}
 use Rattle.fill_bands.proofs.goal_steps.Goals as goal
 
-pub loop-i-preserved : goal.loop-i-preserved
-loop-i-preserved c =
-    let i = c.loop-i.invariant in
-    let n = c.loop-i-test.true in (
-      λ l. one_more _ _ _ _ _ _ _ _ _ (i.0 l) (omega arith) (in_band _ _ l _ c.requires.goals _ n) _ _ _ c.cell_steps-end.ensures,
-      omega arith,
-      omega (arith, c.cell_steps-end.auto.queue, i.2),
+pub loop-from-preserved : goal.loop-from-preserved
+loop-from-preserved c =
+    let i = c.loop-from.invariant in (
+      λ l. one_more _ _ _ _ _ _ _ _ _ (i.0 l) (omega arith) (in_band _ _ l _ c.requires.goals _ c.loop-from-test.true) _ _ _ c.cell_steps-end.ensures,
+      omega (arith, c.cell_steps-end.auto.queue, i.1),
     )

@@ -7,6 +7,3 @@ use Rattle.fill_bands.proofs.ready_first.Given as goal
 
 abbrev pub invariant-loop-i : goal.invariant-loop-i
 invariant-loop-i l = Parted l.work l.limit l.mid l.i l.initial.queue l.queue l.top × (l.i ≤ l.tail) × (length l.queue ≡ length l.initial.queue)
-
-abbrev pub decreases-loop-i : goal.decreases-loop-i
-decreases-loop-i l = l.tail - l.i

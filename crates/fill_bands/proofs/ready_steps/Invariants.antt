@@ -12,6 +12,3 @@ invariant-loop-i l =
     ((w : Band) → StepsReady w l.initial.work l.initial.queue l.mid l.top l.tail → StepsDone w l.initial.queue l.mid l.i l.initial.work l.initial.queue l.work l.queue l.end)
     × (l.mid ≤ l.i)
     × (length l.queue ≡ length l.initial.queue)
-
-abbrev pub decreases-loop-i : goal.decreases-loop-i
-decreases-loop-i l = l.top - l.i

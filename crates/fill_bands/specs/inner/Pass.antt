@@ -6,12 +6,6 @@ use Rattle.fill_steps.specs.inner.Work.{largest, span, highest, stepped, at, Wor
 use Rattle.fill_steps.specs.inner.Band.{Band, Listed, Reached, Underway, Falls}
 use Rattle.fill_steps.specs.inner.Taken.{This}
 
--- r is 1 if v is below limit, else 0
-pub record Below (v limit r : ℕ) : Type 0 where
-  pub most : r ≤ 1
-  pub one : 0 < r → v < limit
-  pub none : r ≡ 0 → limit ≤ v
-
 -- c is a place of the work array, which is small
 pub record Place (x : List ℕ) (c : ℕ) : Type 0 where
   pub few : length x ≤ largest

@@ -6,6 +6,6 @@ use Rattle.fill_steps.proofs.offer.Goals as goal
 
 pub returns : goal.returns
 returns c =
-    let least = ap (λ (z : ℕ). z / unreached) c.lesser.ensures in
+    let least = ap (λ (z : ℕ). z / unreached) c.min.ensures in
     lowered_made _ _ _ _ _ _ _ _ _ c.requires.queue_room c.lower-before.ensures
     (omega (arith, c.newly.ensures.0, least))

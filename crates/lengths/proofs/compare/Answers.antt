@@ -1,7 +1,8 @@
 -- `lengths::compare` meets its contract: a refusal is the first that holds, and lengths that passed the tests are
 -- compared.
 use Rattle.lengths.proofs.Tested.{within_passed}
-use Rattle.lengths.proofs.Exits.{ends_here, goes_on, comes_through, handed_up, ordered}
+use Rattle.answers.proofs.Refusals.{ends_here, goes_on, comes_through, handed_up}
+use Rattle.lengths.proofs.Exits.{ordered}
 use Rattle.lengths.proofs.compare.Goals as goal
 
 pub returns-in_err-test_parts : goal.returns-in_err-test_parts

@@ -2,7 +2,8 @@
 -- small, so that nothing wraps.
 use native.Mathlib.Omega.{arith}
 use Rattle.lengths.proofs.Tested.{small_products}
-use Rattle.lengths.proofs.Exits.{ends_here, goes_on, comes_through, handed_up, spoken}
+use Rattle.answers.proofs.Refusals.{ends_here, goes_on, comes_through, handed_up}
+use Rattle.lengths.proofs.Exits.{spoken}
 use Rattle.lengths.proofs.distance_spoken.Goals as goal
 
 pub returns-in_err-test_parts : goal.returns-in_err-test_parts

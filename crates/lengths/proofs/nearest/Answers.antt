@@ -1,10 +1,6 @@
 -- `lengths::nearest` meets its contract: half the root of 8m², rounded, is the nearest number.
-use native.Mathlib.Omega.{arith}
 use Rattle.lengths.proofs.Rounding.{nearest_half, half_small}
 use Rattle.lengths.proofs.nearest.Goals as goal
-
-pub overflow_add-result : goal.overflow_add-result
-overflow_add-result c = omega (arith, c.isqrt.ensures.bound)
 
 pub returns : goal.returns
 returns c =

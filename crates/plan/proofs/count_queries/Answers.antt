@@ -1,15 +1,13 @@
 -- `plan::count_queries` meets its contract: at each turn those counted and those still to count are all.
-use borrow.Author.Rules.{rules}
+use native.Mathlib.Omega.{arith}
 use Rattle.plan.proofs.Counting.{counting_full, counting_stops, counting_goes_on}
 use Rattle.plan.proofs.count_queries.Goals as goal
 
-pub returns-in_default : goal.returns-in_default
-returns-in_default c =
-    counting_stops _ _ _ _ c.loop-count.invariant (search rules) _ c.fixed_record_at.ensures c.in_default.is
+pub returns-in_default-clause-value : goal.returns-in_default-clause-value
+returns-in_default-clause-value c = counting_stops _ _ _ _ c.loop-count.invariant (omega arith) c.in_default.ensures.value
 
 pub loop-count-preserved : goal.loop-count-preserved
-loop-count-preserved c =
-    counting_goes_on _ _ _ _ c.loop-count.invariant (search rules) _ c.fixed_record_at.ensures _ c.in-Read.is
+loop-count-preserved c = counting_goes_on _ _ _ _ c.loop-count.invariant (omega arith) _ c.in-Ok.ensures.value
 
-pub returns : goal.returns
-returns c = counting_full _ _ _ _ c.loop-count.invariant (search rules)
+pub returns-clause-value : goal.returns-clause-value
+returns-clause-value c = counting_full _ _ _ _ c.loop-count.invariant (omega arith)

@@ -1,10 +1,6 @@
 -- `plan::count_queries` meets its contract: at each turn those counted and those still to count are all.
-use Prim.Native.Nat.{◌-◌}
 use Rattle.plan.proofs.Counting.{Counting}
 use Rattle.plan.proofs.count_queries.Given as goal
 
 abbrev pub invariant-loop-count : goal.invariant-loop-count
 invariant-loop-count l = Counting l.bytes l.first l.count l.at
-
-abbrev pub decreases-loop-count : goal.decreases-loop-count
-decreases-loop-count l = 64 - l.count

@@ -1,13 +1,15 @@
 -- `plan::fixed_record_at` meets its contract: it reads a record, and then asks for the length of its content.
+use Rattle.std.proofs.lemmas.Result.{err_from_is_err_and}
 use Rattle.plan.proofs.Ways.{fixed_not_read, other_length, fixed_read}
-use borrow.Author.Rules.{rules}
 use Rattle.plan.proofs.fixed_record_at.Goals as goal
 
-pub returns-in_default : goal.returns-in_default
-returns-in_default c = fixed_not_read _ _ _ _ _ c.record_at.ensures c.in_default.is
+pub returns-in_err-content-clause-value : goal.returns-in_err-content-clause-value
+returns-in_err-content-clause-value c =
+    let p = err_from_is_err_and c.from_residual.result c.from_residual.ensures.1 in
+    rw (p.1, p.2) (fixed_not_read _ _ _ _ c.in_err-content.ensures.value)
 
-pub returns-then-content-len : goal.returns-then-content-len
-returns-then-content-len c = other_length _ _ _ _ _ c.record_at.ensures _ c.in-Read.is (search rules)
+pub returns-then-content-len-clause-value : goal.returns-then-content-len-clause-value
+returns-then-content-len-clause-value c = other_length _ _ _ _ _ c.in_ok-content.ensures.value c.if-content-len.true
 
-pub returns : goal.returns
-returns c = fixed_read _ _ _ _ _ c.record_at.ensures _ c.in-Read.is (search rules)
+pub returns-clause-value : goal.returns-clause-value
+returns-clause-value c = fixed_read _ _ _ _ _ c.in_ok-content.ensures.value c.if-content-len.false

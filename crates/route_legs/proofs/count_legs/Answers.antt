@@ -3,10 +3,8 @@
 use Rattle.route_legs.proofs.Counting.{counting_end, counting_more}
 use Rattle.route_legs.proofs.count_legs.Goals as goal
 
-pub loop-walker-preserved : goal.loop-walker-preserved
-loop-walker-preserved c =
-    counting_more _ _ _ _ _ _ _ c.loop-walker.invariant c.leg-leg.ensures
+pub loop-leg-preserved : goal.loop-leg-preserved
+loop-leg-preserved c = counting_more _ _ _ _ _ _ _ c.loop-leg.invariant c.in-Some.ensures
 
 pub returns : goal.returns
-returns c =
-    counting_end _ _ _ _ _ _ c.requires.stands c.loop-walker.invariant c.loop-walker-test.false
+returns c = counting_end _ _ _ _ _ _ c.requires c.loop-leg.invariant c.in_default.ensures

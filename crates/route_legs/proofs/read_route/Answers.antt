@@ -2,43 +2,43 @@
 -- start is the first route, there is room for its legs before the first byte is written, and each way out is a law of
 -- proofs/Answering.
 use native.Mathlib.Omega.{arith}
+use Rattle.floor.specs.Lent.{floor_map}
 use Rattle.steps.specs.inner.Ranking.{numbered}
 use Rattle.route_walker.proofs.OnFloor.{filled_readable}
-use Rattle.route_legs.proofs.Answering.{reads_no_room, reads_no_way, reads_way}
+use Rattle.route_legs.proofs.Answering.{few_ahead, reads_no_room, reads_no_way, reads_way}
 use Rattle.route_legs.proofs.read_route.Goals as goal
 
-pub returns-then-table-start : goal.returns-then-table-start
-returns-then-table-start c =
-    let p = c.requires in
-    reads_no_way _ p.sound_floor _ p.start_bound.1 _ p.filled numbered _ p.start_bound.0 _ (omega arith)
+pub returns-then-table-ends : goal.returns-then-table-ends
+returns-then-table-ends c =
+    let ends = c.args.ends.now in
+    reads_no_way (floor_map ends.goal.floor) ends.goal.floor.sound _ ends.goal.chosen.on _ c.requires numbered _ ends.begun.on _ (omega arith)
 
-pub stand-walker-requires-clause-readable : goal.stand-walker-requires-clause-readable
-stand-walker-requires-clause-readable c =
-    let p = c.requires in
-    filled_readable _ p.sound_floor _ p.start_bound.1 _ p.filled
+pub invariant_of-walk : goal.invariant_of-walk
+invariant_of-walk c =
+    let goal = c.args.ends.now.goal in
+    record { readable = filled_readable (floor_map goal.floor) goal.floor.sound _ goal.chosen.on _ c.requires }
+
+pub legs_wanted-wanted-requires-clause-few : goal.legs_wanted-wanted-requires-clause-few
+legs_wanted-wanted-requires-clause-few c =
+    let ends = c.args.ends.now in
+    few_ahead (floor_map ends.goal.floor) ends.goal.floor.sound _ ends.goal.chosen.on _ c.requires numbered _ ends.begun.on
+    _ c.stand-start.ensures (λ e. omega arith)
 
 -- the buffer is as it was,
 -- and too short
 pub returns-then-legs-wanted : goal.returns-then-legs-wanted
 returns-then-legs-wanted c =
-    let p = c.requires in
-    reads_no_room _ p.sound_floor _ p.start_bound.1 _ p.filled numbered _ p.start_bound.0 _ c.stand-walker.ensures
-    (λ e. omega arith)
-    _ c.args.legs.now c.legs_wanted-wanted.ensures (omega arith)
+    let ends = c.args.ends.now in
+    reads_no_room (floor_map ends.goal.floor) ends.goal.floor.sound _ ends.goal.chosen.on _ c.requires numbered _ ends.begun.on
+    _ c.stand-start.ensures (λ e. omega arith) _ c.args.legs.now c.legs_wanted-wanted.ensures (omega arith)
 
-pub write_legs-way-requires-clause-readable : goal.write_legs-way-requires-clause-readable
-write_legs-way-requires-clause-readable c =
-    let p = c.requires in
-    filled_readable _ p.sound_floor _ p.start_bound.1 _ p.filled
-
-pub write_legs-way-requires-clause-leg_room : goal.write_legs-way-requires-clause-leg_room
-write_legs-way-requires-clause-leg_room c =
-    c.legs_wanted-wanted.ensures.enough (omega (arith, c.if-legs-wanted.false))
+pub write_legs-requires-clause-leg_room : goal.write_legs-requires-clause-leg_room
+write_legs-requires-clause-leg_room c = c.legs_wanted-wanted.ensures.enough (omega (arith, c.if-legs-wanted.false))
 
 pub returns : goal.returns
 returns c =
-    let p = c.requires in
+    let ends = c.args.ends.now in
     let room = c.legs_wanted-wanted.ensures.enough (omega (arith, c.if-legs-wanted.false)) in
-    reads_way _ p.sound_floor _ p.start_bound.1 _ p.filled numbered _ p.start_bound.0 _ c.stand-walker.ensures
-    (λ e. omega arith)
-    _ c.args.legs.now _ room c.write_legs-way.ensures.counted c.write_legs-way.ensures.legs_written
+    reads_way (floor_map ends.goal.floor) ends.goal.floor.sound _ ends.goal.chosen.on _ c.requires numbered _ ends.begun.on
+    _ c.stand-start.ensures (λ e. omega arith)
+    _ c.args.legs.now _ room c.write_legs.ensures.counted c.write_legs.ensures.legs_written

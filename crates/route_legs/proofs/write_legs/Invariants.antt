@@ -2,16 +2,16 @@
 -- for all of them. They are counted on the way.
 use Prim.Native.Nat.{◌*◌}
 use lib.ListN.{get_or}
-use Rattle.floor.specs.Floor.{map_of}
+use Rattle.floor.specs.Lent.{floor_map}
 use Rattle.steps.specs.inner.Ranking.{numbered}
 use Rattle.route_legs.proofs.Counting.{CountingLegs}
 use Rattle.route_legs.proofs.Writing.{Writing}
 use Rattle.route_legs.proofs.write_legs.Given as goal
 
-abbrev pub invariant-loop-walker : goal.invariant-loop-walker
-invariant-loop-walker l =
-    Writing (map_of l.width l.height l.map) l.table numbered l.initial.walker l.walker (2 * l.count) l.initial.legs l.legs
-    × CountingLegs (map_of l.width l.height l.map) l.table numbered l.initial.walker l.walker l.count
+abbrev pub invariant-loop-leg : goal.invariant-loop-leg
+invariant-loop-leg l =
+    Writing (floor_map l.walk.floor) l.walk.table.now numbered l.initial.walker l.walker (2 * l.count) l.initial.legs l.legs
+    × CountingLegs (floor_map l.walk.floor) l.walk.table.now numbered l.initial.walker l.walker l.count
 
-abbrev pub decreases-loop-walker : goal.decreases-loop-walker
-decreases-loop-walker l = get_or l.table l.walker.cell 0
+abbrev pub decreases-loop-leg : goal.decreases-loop-leg
+decreases-loop-leg l = get_or l.walk.table.now l.walker.cell 0

@@ -1,6 +1,6 @@
 -- What the functions inside the reader leave of the legs ahead of a walker: counted, and written. Over any order of the
 -- eight headings.
-use Rattle.std.specs.Prelude.{◌≡◌, List, ◌++◌, ℕ, ◌*◌, ◌≤◌, ◌<◌, length, drop}
+use Rattle.std.specs.Prelude.{◌≡◌, List, ◌++◌, ℕ, ◌+◌, ◌*◌, ◌/◌, ◌%◌, ◌≤◌, ◌<◌, length, drop, slice_index}
 use Rattle.lengths.specs.declared.Length.{Length}
 use Rattle.lengths.specs.Order.{◌⊕◌}
 use Rattle.floor.specs.Floor.{Map}
@@ -23,6 +23,11 @@ pub record Ahead (m : Map) (table : List ℕ) (o : Ranking) (w : Walker) (ls : L
 pub record Counted (m : Map) (table : List ℕ) (o : Ranking) (w : Walker) (r : Way) : Type 0 where
   pub exact : (ls : List Leg) (total : Length) → Ahead m table o w ls total → (r.legs ≡ length ls) × (r.length ≡ total)
   pub small : r.legs < 4294967296
+
+-- no more legs are ahead than the number of the walker's cell counts steps
+abbrev pub FewLegs : (m : Map) (table : List ℕ) (o : Ranking) (w : Walker) → Type 0
+FewLegs m table o w =
+    (ls : List Leg) (total : Length) → Ahead m table o w ls total → length ls ≤ slice_index table w.cell / 65536 + slice_index table w.cell % 65536
 
 -- there is room for the legs ahead
 abbrev pub LegRoom : (m : Map) (table : List ℕ) (o : Ranking) (w : Walker) → List ℕ → Type 0

@@ -1,11 +1,10 @@
 -- What the functions inside the reader compute: the next heading, the walker, its steps and a leg. Over any order of
 -- the eight headings.
-use Rattle.std.specs.Prelude.{◌≡◌, ℕ, zero, suc, ◌+◌, ◌*◌, ◌/◌, ◌%◌, ◌<◌, ◌≤◌, Bool, true, false, ◌≢◌, List, [], ◌∷◌, length, ◌==◌, slice_index, slice_index_or}
+use Rattle.std.specs.Prelude.{◌≡◌, ℕ, zero, suc, ◌+◌, ◌*◌, ◌/◌, ◌%◌, ◌<◌, ◌≤◌, Bool, true, false, ◌≢◌, List, [], ◌∷◌, length, ◌==◌, slice_index, slice_index_or, Option, Some, None}
 use Rattle.answers.specs.Bools.{pick}
 use Rattle.lengths.specs.declared.Length.{Length}
 use Rattle.lengths.specs.Order.{zero_length, ◌⊕◌, steps}
-use Rattle.steps.specs.declared.Lead.{Lead}
-use Rattle.steps.specs.declared.Lead.TheVariants.{To, Nowhere}
+use Rattle.steps.specs.declared.heading.Heading.{Heading}
 use Rattle.floor.specs.Floor.{Map, Open, cells}
 use Rattle.steps.specs.Heading.{change_of, weight}
 use Rattle.steps.specs.inner.Ranking.{Ranking}
@@ -20,12 +19,12 @@ abbrev pub cost : ℕ → ℕ
 cost h = pack (long (weight h))
 
 -- a step that leads somewhere, and the number here is the number there with the step added
-abbrev pub fits_lead : List ℕ → ℕ → ℕ → Lead → Bool
-fits_lead table here h Nowhere = false
-fits_lead table here h (To y) = here == (slice_index table y + cost h)
+abbrev pub fits_lead : List ℕ → ℕ → ℕ → Option ℕ → Bool
+fits_lead table here h None = false
+fits_lead table here h (Some y) = here == (slice_index table y + cost h)
 
 -- the step by heading h from x is permitted, and the numbers of its ends differ by it
-unfoldable pub fits : (ℕ → ℕ → Lead) → List ℕ → ℕ → ℕ → Bool
+unfoldable pub fits : (ℕ → ℕ → Option ℕ) → List ℕ → ℕ → ℕ → Bool
 fits lead table x h = fits_lead table (slice_index table x) h (lead h x)
 
 -- the first of k headings from place i that passes the test, or 8
@@ -34,13 +33,18 @@ seek test at zero i = 8
 seek test at (suc k) i = pick (test (at i)) (at i) (seek test at k (suc i))
 
 -- the first heading whose step fits, or 8
-unfoldable pub next : (ℕ → ℕ → Lead) → List ℕ → (ℕ → ℕ) → ℕ → ℕ
+unfoldable pub next : (ℕ → ℕ → Option ℕ) → List ℕ → (ℕ → ℕ) → ℕ → ℕ
 next lead table at x = seek (fits lead table x) at 8 0
 
+-- a walker's next heading by its number, 8 for none
+abbrev pub taken : Option Heading → ℕ
+taken None = 8
+taken (Some h) = h.number
+
 -- the reader's headings from x, with their length
-pub data Run (lead : ℕ → ℕ → Lead) (table : List ℕ) (at : ℕ → ℕ) : ℕ → List ℕ → Length → Type 0 where
+pub data Run (lead : ℕ → ℕ → Option ℕ) (table : List ℕ) (at : ℕ → ℕ) : ℕ → List ℕ → Length → Type 0 where
   done : {x : ℕ} → next lead table at x ≡ 8 → Run lead table at x [] zero_length
-  more : {h x y : ℕ} {hs : List ℕ} {l : Length} → next lead table at x ≡ h → h < 8 → lead h x ≡ To y → Run lead table at y hs l
+  more : {h x y : ℕ} {hs : List ℕ} {l : Length} → next lead table at x ≡ h → h < 8 → lead h x ≡ Some y → Run lead table at y hs l
       → Run lead table at x (h ∷ hs) (l ⊕ weight h)
 
 -- where heading h leads from x, counted a row and a column further, so that it is a whole number
@@ -67,7 +71,7 @@ pub record Readable (m : Map) (table : List ℕ) : Type 0 where
 -- the walker stands on the floor and knows its next heading, and its counts have room for the steps that are left
 pub record Stands (m : Map) (table : List ℕ) (o : Ranking) (w : Walker) : Type 0 where
   pub on : w.cell < cells m
-  pub ready : w.next ≡ next (lead_of m) table o.at w.cell
+  pub ready : taken w.next ≡ next (lead_of m) table o.at w.cell
   pub few : steps w.length + slice_index table w.cell < 4294967296
 
 -- a walker at a cell, before its first step
@@ -78,15 +82,15 @@ pub record Starts (m : Map) (table : List ℕ) (o : Ranking) (cell : ℕ) (w : W
 
 -- one step from w to v
 pub record Steps (m : Map) (table : List ℕ) (o : Ranking) (w v : Walker) : Type 0 where
-  pub lead : lead_of m w.next w.cell ≡ To v.cell
-  pub sum : v.length ≡ w.length ⊕ weight w.next
+  pub lead : lead_of m (taken w.next) w.cell ≡ Some v.cell
+  pub sum : v.length ≡ w.length ⊕ weight (taken w.next)
   pub falls : slice_index_or table v.cell 0 < slice_index table w.cell
   pub stands : Stands m table o v
 
 -- what a step hands back: the walker moved, or at the goal the same
 pub record Stepped (m : Map) (table : List ℕ) (o : Ranking) (w v : Walker) : Type 0 where
-  pub still : 8 ≤ w.next → v ≡ w
-  pub moved : w.next < 8 → Steps m table o w v
+  pub still : 8 ≤ taken w.next → v ≡ w
+  pub moved : taken w.next < 8 → Steps m table o w v
 
 -- what n steps by the heading h from w to v leave of the headings hs, of length l
 pub record Split (m : Map) (table : List ℕ) (o : Ranking) (w v : Walker) (n h : ℕ) (hs : List ℕ) (l : Length) : Type 0 where
@@ -105,8 +109,8 @@ pub record Walked (m : Map) (table : List ℕ) (o : Ranking) (w v : Walker) (n h
 
 -- the whole leg from w
 pub record Leads (m : Map) (table : List ℕ) (o : Ranking) (w : Walker) (r : WalkedLeg) : Type 0 where
-  pub heading : r.heading ≡ w.next
-  pub going : Walked m table o w r.after r.count w.next
-  pub whole : r.after.next ≢ w.next
+  pub heading : r.heading.number ≡ taken w.next
+  pub going : Walked m table o w r.after r.count (taken w.next)
+  pub whole : taken r.after.next ≢ taken w.next
   pub some : 0 < r.count
   pub short : r.count ≤ 127

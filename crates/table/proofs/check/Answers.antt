@@ -1,20 +1,9 @@
--- `table::check` meets its contract: a refusal is the first that holds, and what passed the tests is what the pass
--- over the cells asks for.
-use Rattle.floor.specs.Floor.{map_of, spot_of}
-use Rattle.calls.proofs.Called.{goal_ready, within, ready}
-use Rattle.table.proofs.Exits.{judged}
+-- `table::check` meets its contract: the cell that is found is the verdict.
+use mathlib.Core.Path.{sym}
+use Rattle.answers.proofs.Refusals.{work_done}
+use Rattle.table.proofs.Exits.{found_wrong}
 use Rattle.table.proofs.check.Goals as goal
 
-pub cell_of-goal-requires : goal.cell_of-goal-requires
-cell_of-goal-requires c =
-    let r = goal_ready _ _ _ c.test_goal-tested.ensures (search) in
-    within (map_of _ _ _) (spot_of _ _) _ r.fitting r.to
-
-pub first_wrong-cell-requires : goal.first_wrong-cell-requires
-first_wrong-cell-requires c =
-    let r = goal_ready _ _ _ c.test_goal-tested.ensures (search) in
-    ready (map_of _ _ _) (spot_of _ _) _ _ c.cell_of-goal.ensures r.fitting r.to
-
-pub returns : goal.returns
-returns c =
-    judged _ _ _ c.test_goal-tested.ensures (search) _ c.cell_of-goal.ensures _ c.first_wrong-cell.ensures _ c.refuse_at.ensures
+pub returns-in-Some : goal.returns-in-Some
+returns-in-Some c =
+    work_done _ _ (sym c.in_ok-goal.ensures.tested) (found_wrong _ _ _ _ c.in_ok-goal.ensures.aimed _ _ c.in-Some.ensures tt)

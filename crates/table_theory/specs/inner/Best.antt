@@ -4,8 +4,7 @@ use Rattle.std.specs.Prelude.{Bool, ℕ, zero, suc}
 use Rattle.answers.specs.Bools.{pick}
 use Rattle.lengths.specs.declared.Length.{Length}
 use Rattle.lengths.specs.Order.{zero_length, ◌⊕◌, shorter}
-use Rattle.steps.specs.declared.Lead.{Lead}
-use Rattle.steps.specs.declared.Lead.TheVariants.{To, Nowhere}
+use Rattle.std.specs.Prelude.{Option, Some, None}
 use Rattle.steps.specs.Heading.{weight}
 use Rattle.table_theory.specs.Entry.{Entry, mark, long}
 
@@ -15,9 +14,9 @@ further mark w = mark
 further (long m) w = long (m ⊕ w)
 
 -- what a heading offers
-abbrev pub offer : (ℕ → Entry) → Length → Lead → Entry
-offer T w Nowhere = mark
-offer T w (To y) = further (T y) w
+abbrev pub offer : (ℕ → Entry) → Length → Option ℕ → Entry
+offer T w None = mark
+offer T w (Some y) = further (T y) w
 
 abbrev pub lesser : Entry → Entry → Entry
 lesser mark e = e
@@ -25,10 +24,10 @@ lesser (long a) mark = long a
 lesser (long a) (long b) = pick (shorter b a) (long b) (long a)
 
 -- the least offer of the headings below k
-abbrev pub best : (ℕ → ℕ → Lead) → (ℕ → Entry) → ℕ → ℕ → Entry
+abbrev pub best : (ℕ → ℕ → Option ℕ) → (ℕ → Entry) → ℕ → ℕ → Entry
 best lead T x zero = mark
 best lead T x (suc k) = lesser (best lead T x k) (offer T (weight k) (lead k x))
 
 -- what the neighbours make a cell, by its k headings
-abbrev pub made : (ℕ → ℕ → Lead) → (ℕ → Bool) → (ℕ → Entry) → ℕ → ℕ → Entry
+abbrev pub made : (ℕ → ℕ → Option ℕ) → (ℕ → Bool) → (ℕ → Entry) → ℕ → ℕ → Entry
 made lead goal T k x = pick (goal x) (long zero_length) (best lead T x k)

@@ -1,16 +1,22 @@
--- `rooms::growth::column_open` meets its contract. The loop's invariant: all rows from `top` up to `row` are open. The
--- measure is what is left.
-use mathlib.Core.Path.{sym, ◌∙◌}
-use native.Mathlib.Omega.{arith}
-use Rattle.floor.specs.Floor.{map_of, open?}
+-- `rooms::growth::column_open` meets its contract: the loop stops at a cell that is not open, or has passed all.
+use Rattle.std.proofs.Common.{◌∙◌, sym, arith}
+use Rattle.floor.specs.Floor.{open?}
+use Rattle.floor.specs.Lent.{floor_map}
 use Rattle.rooms.specs.Room.{column_open}
-use Rattle.rooms.proofs.Running.{part_passes, part_fails}
+use Rattle.rooms.proofs.Running.{one_after, part_passes, part_fails}
 use Rattle.rooms.proofs.growth.column_open.Goals as goal
 
 pub returns-then-not-open_at : goal.returns-then-not-open_at
 unfolding column_open
-returns-then-not-open_at c = sym (part_fails (open? (map_of _ _ _) _) _ _ _ c.loop-row.invariant.0 (omega arith) (sym c.open_at.ensures ∙ c.if-not-open_at.true))
+returns-then-not-open_at c =
+    sym (part_fails (open? (floor_map c.args.floor.now) c.args.column) _ _ c.loop-row.row c.loop-row.auto.row (omega arith) (sym c.open_at.ensures ∙ c.if-not-open_at.true))
+
+pub returns-else-not-open_at : goal.returns-else-not-open_at
+unfolding column_open
+returns-else-not-open_at c =
+    let all = one_after (open? (floor_map c.args.floor.now) c.args.column) _ _ c.loop-row.invariant (sym c.open_at.ensures ∙ c.if-not-open_at.false) in
+    sym (part_passes (open? (floor_map c.args.floor.now) c.args.column) _ _ (λ k p q. all k p (omega arith)))
 
 pub returns : goal.returns
 unfolding column_open
-returns c = sym (part_passes (open? (map_of _ _ _) _) _ _ (λ k p q. c.loop-row.invariant.1 k p (omega arith)))
+returns c = sym (part_passes (open? (floor_map c.args.floor.now) c.args.column) _ _ (λ k p q. c.loop-row.invariant k p (omega arith)))
