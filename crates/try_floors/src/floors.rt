@@ -1,6 +1,4 @@
 // Maps of floors to try: any small floor, by the binary digits of a number, floors that look random, and given ones.
-ghost use Rattle.std.specs.Prelude.{◌≤◌, ◌<◌};
-
 use crate::random::Random;
 use try_solver::ask;
 use try_solver::ask::{MAP, Sides, Spot};
@@ -14,51 +12,46 @@ pub enum Pattern {
     Walls,
     // By the binary digits of a number, row by row.
     Digits(u64),
-    // 103 wide and 71 high, a fork: from (0, 50) to (102, 49) lead a way of 143 straight steps, through lanes of one cell, and a way of 99
-    // diagonal steps and 3 straight ones, through lanes of three. The first is shorter, by less than a hundredth of a step.
+    // 103 wide and 71 high, a fork: from (0, 50) to (102, 49) lead a way of 143 straight steps, through lanes of one
+    // cell, and a way of 99 diagonal steps and 3 straight ones, through lanes of three. The first is shorter, by less
+    // than a hundredth of a step.
     Fork,
 }
 
 // Whether a cell of the fork is open.
-fn on_fork(spot: Spot) -> bool
-    requires { (spot.column < 128) × (spot.row < 128) }
-{
+fn on_fork(spot: Spot) -> bool {
     let Spot { column, row } = spot;
     match column {
         _ if row == 70 => true,
         0 => 49 <= row,
         102 => 48 <= row,
-        1..=50 => 49 <= column + row && column + row <= 51,
+        1..=50 => row.abs_diff(50 - column) <= 1,
         51 | 52 => row == 0,
-        _ => row + 52 <= column && column <= row + 54,
+        _ => row.abs_diff(column - 53) <= 1,
     }
 }
 
 // Whether a cell has a wall.
-fn on_wall(width: usize, spot: Spot) -> bool
-    requires { spot.column < 128 }
-{
+fn on_wall(width: usize, spot: Spot) -> bool {
     match spot.row % 4 {
         1 => spot.column != 0,
-        3 => spot.column + 1 != width,
+        3 => spot.column != width.saturating_sub(1),
         _ => false,
     }
 }
 
-// Whether a digit of a number is 1.
-fn is_one(digits: u64, n: usize) -> bool {
-    n < 64 && digits >> n & 1 == 1
-}
-
-// Whether a cell is blocked.
-fn is_blocked(pattern: Pattern, width: usize, spot: Spot, random: Random) -> bool
-    requires { (spot.column < 128) × (spot.row < 128) }
-{
-    match pattern {
-        Pattern::Density(hundredths) => random.below(100) < hundredths,
-        Pattern::Walls => on_wall(width, spot),
-        Pattern::Digits(digits) => is_one(digits, ask::times(spot.row, width) + spot.column),
-        Pattern::Fork => !on_fork(spot),
+impl Pattern {
+    // Whether a cell of a floor is blocked.
+    fn blocks(self, width: usize, spot: Spot, random: Random) -> bool {
+        match self {
+            Pattern::Density(hundredths) => random.below(100) < hundredths,
+            Pattern::Walls => on_wall(width, spot),
+            Pattern::Digits(digits) => {
+                let n = ask::times(spot.row, width).saturating_add(spot.column);
+                n < 64 && digits >> n & 1 == 1
+            }
+            Pattern::Fork => !on_fork(spot),
+        }
     }
 }
 
@@ -69,22 +62,27 @@ fn block(map: &mut [u8; MAP], at: usize, column: usize) {
     }
 }
 
-// Sets the last bit of one of so many bytes of the map, for one seed in four: past the width, where the byte ends a row that ends before it.
+// Sets the last bit of one of so many bytes of the map, for one seed in four: past the width, where the byte ends a row
+// that ends before it.
 pub fn pad_some(map: &mut [u8; MAP], bytes: usize, seed: Random) {
     if seed.below(4) == 0 {
         block(map, seed.next().pick(bytes), 7);
     }
 }
 
-// Lays a row: the state after it.
-fn lay_row(sides: Sides, row: usize, pattern: Pattern, seed: Random, map: &mut [u8; MAP]) -> Random
-    requires { (sides.width ≤ 128) × (row < 128) }
-{
-    let first = ask::times(row, sides.bytes_across());
+// Lays a row: the number after it.
+fn lay_row(
+    sides: Sides,
+    row: usize,
+    pattern: Pattern,
+    seed: Random,
+    map: &mut [u8; MAP],
+) -> Random {
     let mut random = seed;
     for column in 0..sides.width {
-        if is_blocked(pattern, sides.width, Spot { column, row }, random) {
-            block(map, first + column / 8, column);
+        let spot = Spot { column, row };
+        if pattern.blocks(sides.width, spot, random) {
+            block(map, sides.byte_of(spot), column);
         }
         random = random.next();
     }

@@ -8,8 +8,8 @@ pub const ENTRIES: usize = 16400;
 
 pub const ROOM: usize = 33000;
 
-// The kinds of calls: accepting a floor, the room around a cell, comparing two lengths, speaking a distance, filling a table, checking one,
-// finding a route, and reading one from a table.
+// The kinds of calls: accepting a floor, the room around a cell, comparing two lengths, speaking a distance, filling a
+// table, checking one, finding a route, and reading one from a table.
 #[derive(Clone, Copy, PartialEq, Eq)]
 pub enum Kind {
     Floors,
@@ -37,18 +37,15 @@ impl Kind {
 
     // Whether a kind of call has a start.
     pub fn has_start(self) -> bool {
-        match self {
-            Kind::Rooms | Kind::FoundRoutes | Kind::ReadRoutes => true,
-            _ => false,
-        }
+        matches!(self, Kind::Rooms | Kind::FoundRoutes | Kind::ReadRoutes)
     }
 
     // Whether a kind of call has a goal and a table.
     pub fn has_goal(self) -> bool {
-        match self {
-            Kind::Tables | Kind::Checks | Kind::FoundRoutes | Kind::ReadRoutes => true,
-            _ => false,
-        }
+        matches!(
+            self,
+            Kind::Tables | Kind::Checks | Kind::FoundRoutes | Kind::ReadRoutes
+        )
     }
 }
 
@@ -92,6 +89,11 @@ impl Sides {
         self.width.div_ceil(8)
     }
 
+    // Which byte of the map has the bit of a spot.
+    pub fn byte_of(self, spot: Spot) -> usize {
+        times(spot.row, self.bytes_across()) + spot.column / 8
+    }
+
     // How many bytes the map takes; 0 if it has more than 130 rows or bytes to a row.
     pub fn bytes(self) -> usize
         ensures { result ≤ 16900 }
@@ -114,9 +116,9 @@ pub struct Length {
     pub diagonal: u32,
 }
 
-// A call: its kind and its numbers, of which a kind takes some. It is made over so many bytes of the map, entries of a table, and bytes of room
-// for legs. A room is asked for around the start. A distance is that of the length, in cells of the size; a comparison is of the length with
-// the other one.
+// A call: its kind and its numbers, of which a kind takes some. It is made over so many bytes of the map, entries of a
+// table, and bytes of room for legs. A room is asked for around the start. A distance is that of the length, in cells
+// of the size; a comparison is of the length with the other one.
 #[derive(Clone, Copy)]
 pub struct Call {
     pub kind: Kind,

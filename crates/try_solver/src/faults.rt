@@ -23,7 +23,7 @@ fn is_spilt(map: &[u8; MAP], sides: Sides) -> bool {
 }
 
 // Accepting a floor: 1, 2, 3.
-pub fn of_floor(call: Call, map: &[u8; MAP]) -> Result<Floor, Refused> {
+fn of_floor(call: Call, map: &[u8; MAP]) -> Result<Floor, Refused> {
     let sides = call.sides;
     let floor = Floor::new(sides).ok_or(Refused::numbered(1))?;
     refuse_if(call.bytes != sides.bytes(), 2)?;
@@ -37,7 +37,7 @@ fn is_off(sides: Sides, spot: Spot) -> bool {
 }
 
 // The table's length and the places of a call: 4 to 8.
-pub fn of_places(call: Call, map: &[u8; MAP]) -> Result<(), Refused> {
+fn of_places(call: Call, map: &[u8; MAP]) -> Result<(), Refused> {
     let sides = call.sides;
     let has_start = call.kind.has_start();
     let has_goal = call.kind.has_goal();
@@ -46,4 +46,11 @@ pub fn of_places(call: Call, map: &[u8; MAP]) -> Result<(), Refused> {
     refuse_if(has_goal && is_off(sides, call.goal), 6)?;
     refuse_if(has_start && grid::is_set(map, sides, call.start), 7)?;
     refuse_if(has_goal && grid::is_set(map, sides, call.goal), 8)
+}
+
+// A call on a floor: its floor; 1 to 8.
+pub fn of_call(call: Call, map: &[u8; MAP]) -> Result<Floor, Refused> {
+    let floor = of_floor(call, map)?;
+    of_places(call, map)?;
+    Ok(floor)
 }

@@ -1,20 +1,13 @@
-// A floor laid out on a grid of 130 places to a row, with blocked places all around it. A cell and its eight neighbours are nine places, three
-// to a row: the first of them is the cell's corner, the middle one is the cell.
+// A floor laid out on a grid of 130 places to a row, with blocked places all around it. A cell and its eight neighbours
+// are nine places, three to a row: the first of them is the cell's corner, the middle one is the cell.
 ghost use Rattle.std.specs.Prelude.{◌+◌, ◌*◌, ◌≤◌, ◌<◌};
 
-use crate::ask;
 use crate::ask::{MAP, Sides, Spot};
 use crate::sizes::Steps;
 
-// How many places a row of the grid has, and how many the grid.
-pub const STRIDE: usize = 130;
-
-pub const PLACES: usize = 16900;
-
 // The byte of a spot's column in a row of the map; past its end, all blocked.
 pub fn byte_at(map: &[u8; MAP], sides: Sides, spot: Spot) -> u8 {
-    let at = ask::times(spot.row, sides.bytes_across()) + spot.column / 8;
-    map.get(at).copied().unwrap_or(255)
+    map.get(sides.byte_of(spot)).copied().unwrap_or(255)
 }
 
 // Whether the bit of a spot is set in the map.
@@ -78,7 +71,19 @@ impl Heading {
     }
 }
 
-// A cell, by the place of its corner.
+// How many places a row of the grid has, and how many the grid.
+const STRIDE: usize = 130;
+
+const PLACES: usize = STRIDE * STRIDE;
+
+// A place of the grid.
+#[derive(Clone, Copy)]
+pub struct Place {
+    n: usize,
+    ghost on_grid: { n < 16900 },
+}
+
+// A cell, by its corner.
 #[derive(Clone, Copy, PartialEq, Eq)]
 pub struct Cell {
     corner: usize,
@@ -99,35 +104,35 @@ impl Cell {
     }
 
     // The place so far to the right of the corner and down.
-    fn place_at(self, right: usize, down: usize) -> usize
+    fn place_at(self, right: usize, down: usize) -> Place
         requires { (right ≤ 2) × (down ≤ 2) }
-        ensures { result < 16900 }
     {
-        self.corner + down * STRIDE + right
+        Place {
+            n: self.corner + down * STRIDE + right,
+        }
     }
 
     // The cell's own place.
-    pub fn place(self) -> usize
-        ensures { result < 16900 }
-    {
+    pub fn place(self) -> Place {
         self.place_at(1, 1)
     }
 
     // The place of the head of a step.
-    pub fn head(self, heading: Heading) -> usize
-        ensures { result < 16900 }
-    {
+    pub fn head(self, heading: Heading) -> Place {
         self.place_at(heading.right(), heading.down())
     }
 
     // The cell to which a step leads; the same cell at the grid's edge, where none leads.
     pub fn next(self, heading: Heading) -> Cell {
-        match self.head(heading).checked_sub(STRIDE + 1) {
+        match self.head(heading).n.checked_sub(STRIDE + 1) {
             Some(corner) if corner <= 16637 => Cell { corner },
             _ => self,
         }
     }
 }
+
+// The most cells of a floor: a way has fewer steps.
+pub const CELLS: usize = 16384;
 
 // The sides of a floor that is accepted.
 #[derive(Clone, Copy)]
@@ -137,6 +142,14 @@ pub struct Floor {
 }
 
 impl Floor {
+    // A floor of one cell.
+    const LEAST: Floor = Floor {
+        sides: Sides {
+            width: 1,
+            height: 1,
+        },
+    };
+
     // Sides from 1 to 128.
     pub fn new(sides: Sides) -> Option<Floor> {
         let Sides { width, height } = sides;
@@ -159,24 +172,51 @@ impl Floor {
     }
 }
 
+// A value for each place of the grid.
+#[derive(Drop)]
+pub struct Board<T> {
+    values: [T; PLACES],
+}
+
+impl<T: Copy> Board<T> {
+    // The same value everywhere.
+    pub fn new(value: T) -> Board<T> {
+        Board {
+            values: [value; PLACES],
+        }
+    }
+
+    // Sets the places in a floor's rows and in those before and after them.
+    pub fn clear(&mut self, floor: Floor, value: T) {
+        for place in &mut self.values[..(floor.sides.height + 2) * STRIDE] {
+            *place = value;
+        }
+    }
+
+    // The value of a place.
+    pub fn at(&self, place: Place) -> T {
+        self.values[place.n]
+    }
+
+    // Sets the value of a place.
+    pub fn set(&mut self, place: Place, value: T) {
+        self.values[place.n] = value;
+    }
+}
+
 // A floor, and which places of the grid are open.
 #[derive(Drop)]
 pub struct Grid {
     pub floor: Floor,
-    open: [bool; PLACES],
+    open: Board<bool>,
 }
 
 impl Grid {
     // A floor of one blocked cell.
     pub fn new() -> Grid {
         Grid {
-            floor: Floor {
-                sides: Sides {
-                    width: 1,
-                    height: 1,
-                },
-            },
-            open: [false; PLACES],
+            floor: Floor::LEAST,
+            open: Board::new(false),
         }
     }
 
@@ -185,14 +225,15 @@ impl Grid {
         let sides = self.floor.sides;
         for column in 0..sides.width {
             let spot = Spot { column, row };
-            self.open[Cell::at(spot).place()] = !is_set(map, sides, spot);
+            self.open
+                .set(Cell::at(spot).place(), !is_set(map, sides, spot));
         }
     }
 
     // Lays a floor out.
     pub fn lay(&mut self, floor: Floor, map: &[u8; MAP]) {
         self.floor = floor;
-        self.open[..(floor.sides.height + 2) * STRIDE].fill(false);
+        self.open.clear(floor, false);
         for row in 0..floor.sides.height {
             self.lay_row(row, map);
         }
@@ -200,14 +241,14 @@ impl Grid {
 
     // Whether a cell is open.
     pub fn is_open(&self, cell: Cell) -> bool {
-        self.open[cell.place()]
+        self.open.at(cell.place())
     }
 
-    // Whether a step leads on from an open cell: its head is open, and so are the two places beside a diagonal one, in the cell's own row and in
-    // its own column. Of a straight one these are its head and the cell.
+    // Whether a step leads on from an open cell: its head is open, and so are the two places beside a diagonal one, in
+    // the cell's own row and in its own column. Of a straight one these are its head and the cell.
     pub fn leads(&self, cell: Cell, heading: Heading) -> bool {
-        self.open[cell.head(heading)]
-            && self.open[cell.place_at(heading.right(), 1)]
-            && self.open[cell.place_at(1, heading.down())]
+        self.open.at(cell.head(heading))
+            && self.open.at(cell.place_at(heading.right(), 1))
+            && self.open.at(cell.place_at(1, heading.down()))
     }
 }

@@ -1,5 +1,6 @@
-// The room around a cell: up and down from the cell, then by whole columns to the left and to the right, as far as all is open.
-use crate::ask::{Said, Spot};
+// The room around a cell: up and down from the cell, then by whole columns to the left and to the right, as far as all
+// is open.
+use crate::ask::{Spot, VALUES};
 use crate::grid::{Cell, Grid};
 
 // Whether a column is open from a row to another.
@@ -8,7 +9,7 @@ fn is_clear(grid: &Grid, column: usize, top: usize, bottom: usize) -> bool {
 }
 
 // The room around an open cell: its left, top, right and bottom.
-pub fn room(grid: &Grid, around: Spot) -> Said {
+pub fn room(grid: &Grid, around: Spot) -> [usize; VALUES] {
     let Spot { column, row } = around;
     let top = (0..row)
         .rev()
@@ -28,5 +29,5 @@ pub fn room(grid: &Grid, around: Spot) -> Said {
         .take_while(|after| is_clear(grid, *after, top, bottom))
         .last()
         .unwrap_or(column);
-    Ok([left, top, right, bottom])
+    [left, top, right, bottom]
 }

@@ -1,42 +1,16 @@
 // Lengths to a cell, or from it, by sweeping over the floor until nothing changes.
 use crate::ask::ENTRIES;
-use crate::grid::{Cell, Floor, Grid, Heading, PLACES, STRIDE};
+use crate::grid::{Board, CELLS, Cell, Floor, Grid, Heading};
 use crate::sizes;
 use crate::sizes::Steps;
 
-// As many sweeps as a way can have steps, and one that finds nothing to change.
-const ROUNDS: usize = 16384;
-
 // The lengths of the cells of a floor; none where there is no way.
-#[derive(Drop)]
-pub struct Lengths {
-    at: [Option<Steps>; PLACES],
-}
+pub type Lengths = Board<Option<Steps>>;
 
 impl Lengths {
-    // No lengths.
-    pub fn new() -> Lengths {
-        Lengths { at: [None; PLACES] }
-    }
-
-    // Takes the lengths of a floor's places back.
-    pub fn clear(&mut self, grid: &Grid) {
-        self.at[..(grid.floor.sides.height + 2) * STRIDE].fill(None);
-    }
-
-    // The length of a cell.
-    pub fn of(&self, cell: Cell) -> Option<Steps> {
-        self.at[cell.place()]
-    }
-
-    // Sets the length of a cell.
-    pub fn set(&mut self, cell: Cell, length: Option<Steps>) {
-        self.at[cell.place()] = length;
-    }
-
     // The length over a step from an open cell, if there is one and the step leads there.
     pub fn over(&self, grid: &Grid, cell: Cell, heading: Heading) -> Option<Steps> {
-        let there = self.at[cell.head(heading)]?;
+        let there = self.at(cell.head(heading))?;
         if grid.leads(cell, heading) {
             return Some(there.plus(heading.step()));
         }
@@ -56,11 +30,11 @@ impl Lengths {
         if !grid.is_open(cell) {
             return false;
         }
-        match (self.least_over(grid, cell), self.of(cell)) {
+        match (self.least_over(grid, cell), self.at(cell.place())) {
             (None, _) => false,
             (Some(least), Some(length)) if !least.is_shorter(length) => false,
             (least, _) => {
-                self.set(cell, least);
+                self.set(cell.place(), least);
                 true
             }
         }
@@ -87,11 +61,12 @@ impl Lengths {
         changed
     }
 
-    // Finds the lengths to a cell, which are those from it.
+    // Finds the lengths to a cell, which are those from it, by as many sweeps as a way can have steps, and one that
+    // finds nothing to change.
     pub fn spread(&mut self, grid: &Grid, cell: Cell) {
-        self.clear(grid);
-        self.set(cell, Some(Steps::ZERO));
-        for i in 0..ROUNDS {
+        self.clear(grid.floor, None);
+        self.set(cell.place(), Some(Steps::ZERO));
+        for i in 0..CELLS {
             if !self.sweep(grid, i % 2 == 1) {
                 return;
             }
@@ -102,7 +77,7 @@ impl Lengths {
     pub fn write(&self, floor: Floor, table: &mut [u32; ENTRIES]) {
         let entries = &mut table[..floor.cells()];
         for (n, entry) in entries.iter_mut().enumerate() {
-            *entry = sizes::entry_of(self.of(floor.cell(n)));
+            *entry = sizes::entry_of(self.at(floor.cell(n).place()));
         }
     }
 }

@@ -1,11 +1,12 @@
 // Lengths, their sizes, their entries in a table, and the distance spoken.
 //
-// The size of a length is straight + diagonal × √2 in parts of 2^-40, with √2 taken as 1,554,944,255,988 of them, which is less than
-// half a part off. Two different lengths with parts up to 16,384, p and q their differences, are at least 1 / (|p| + |q| × √2) apart,
-// since p² - 2q² is a whole number and not 0: more than 2^-16, where the sizes' error is less than 2^-26. So sizes order lengths exactly.
+// The size of a length is straight + diagonal × √2 in parts of 2^-40, with √2 taken as 1,554,944,255,988 of them, which
+// is less than half a part off. Two different lengths with parts up to 16,384, p and q their differences, are at least
+// 1 / (|p| + |q| × √2) apart, since p² - 2q² is a whole number and not 0: more than 2^-16, where the sizes' error is
+// less than 2^-26. So sizes order lengths exactly.
 ghost use Rattle.std.specs.Prelude.{◌≤◌, ◌<◌};
 
-use crate::ask::{Call, Length, Refused, Said};
+use crate::ask::{Length, Refused, Said};
 
 // The mark of a table.
 pub const MARK: u32 = u32::MAX;
@@ -50,11 +51,6 @@ impl Steps {
         Steps::new(entry / 65536, entry % 65536)
     }
 
-    // The steps of a length; 12.
-    fn of_length(length: Length) -> Result<Steps, Refused> {
-        Steps::new(length.straight, length.diagonal).ok_or(Refused::numbered(12))
-    }
-
     // The steps as a table's entry.
     pub fn entry(self) -> u32 {
         u32::from(self.straight) * 65536 + u32::from(self.diagonal)
@@ -79,33 +75,55 @@ impl Steps {
     }
 }
 
+// The steps of a length; 12.
+impl TryFrom<Length> for Steps {
+    type Error = Refused;
+
+    fn try_from(length: Length) -> Result<Steps, Refused> {
+        Steps::new(length.straight, length.diagonal).ok_or(Refused::numbered(12))
+    }
+}
+
 // The entry of a length; where there is none, the mark.
 pub fn entry_of(length: Option<Steps>) -> u32 {
     length.map_or(MARK, |steps| steps.entry())
 }
 
 // Comparing two lengths: 1 if the first is shorter, else 0; 12.
-pub fn compare(call: Call) -> Said {
-    let length = Steps::of_length(call.length)?;
-    let other = Steps::of_length(call.other)?;
-    Ok([usize::from(length.is_shorter(other)), 0, 0, 0])
+pub fn compare(length: Length, other: Length) -> Said {
+    let steps = Steps::try_from(length)?;
+    let others = Steps::try_from(other)?;
+    Ok([usize::from(steps.is_shorter(others)), 0, 0, 0])
 }
 
-// The whole number nearest to m√2: the root of 8m² is 2m√2 rounded down, and half of the next number, rounded down, is the nearest.
+// The whole root of a number, rounded down, by its binary digits: another way than `isqrt`, which the library takes.
+fn root_of(square: u64) -> u32 {
+    let mut root: u32 = 0;
+    for digit in 0..32u32 {
+        let next = root | 1 << (31 - digit);
+        if u64::from(next) * u64::from(next) <= square {
+            root = next;
+        }
+    }
+    root
+}
+
+// The whole number nearest to m√2: the root of 8m² is 2m√2 rounded down, and half of the next number, rounded down, is
+// the nearest.
 fn nearest(m: u64) -> u64
     requires { m ≤ 65535000 }
     ensures { result ≤ 2147483648 }
 {
-    ((8 * (m * m)).isqrt() + 1) / 2
+    (u64::from(root_of(8 * (m * m))) + 1) / 2
 }
 
-// The distance spoken: the centimetres; 12, 13.
-pub fn distance(call: Call) -> Said {
-    let size = u64::from(call.size);
-    let steps = Steps::of_length(call.length)?;
+// The distance spoken of a length in cells of a size: the centimetres; 12, 13.
+pub fn distance(length: Length, size: u32) -> Said {
+    let steps = Steps::try_from(length)?;
     if size < 1 || 1000 < size {
         return Err(Refused::numbered(13));
     }
+    let size = u64::from(size);
     let centimetres = size * u64::from(steps.straight) + nearest(size * u64::from(steps.diagonal));
     Ok([centimetres as usize, 0, 0, 0])
 }

@@ -1,18 +1,18 @@
-// The first shortest way. A step lies on a shortest way exactly if the length from the start to its foot, the step, and the length from its
-// head to the goal make the whole length; at each cell the headings are tried in their order, and the legs are written as they come.
+// The first shortest way. A step lies on a shortest way exactly if the length from the start to its foot, the step, and
+// the length from its head to the goal make the whole length; at each cell the headings are tried in their order, and
+// the legs are written as they come.
 ghost use Rattle.std.specs.Prelude.{◌≡◌, ◌≤◌, length};
 
-use crate::grid::{Cell, Grid, Heading};
+use crate::ask::ROOM;
+use crate::grid::{CELLS, Cell, Grid, Heading};
 use crate::reach::Lengths;
 use crate::sizes::Steps;
 
 // How many legs there is room for: half as many as a buffer has bytes.
-const LEGS: usize = 16500;
+const LEGS: usize = ROOM / 2;
 
-// More steps than a way can have.
-const STEPS: usize = 16384;
-
-// The legs of a way as they come, each of two bytes: the number of its heading, and how many steps it has.
+// The legs of a way as they come, each of two bytes: the number of its heading, and how many steps it has. There is no
+// heap, so room for the most legs is kept, with the count of those that are written.
 #[derive(Drop)]
 pub struct Legs {
     legs: [[u8; 2]; LEGS],
@@ -74,7 +74,7 @@ impl Ways<'_> {
     // Whether a step from a cell lies on a shortest way.
     fn has(&self, cell: Cell, heading: Heading) -> bool {
         match (
-            self.behind.of(cell),
+            self.behind.at(cell.place()),
             self.ahead.over(self.grid, cell, heading),
         ) {
             (Some(behind), Some(ahead)) => behind.plus(ahead) == self.whole,
@@ -94,7 +94,7 @@ impl Ways<'_> {
     pub fn follow(&self, start: Cell, legs: &mut Legs) {
         let mut cell = start;
         legs.clear();
-        for _ in 0..STEPS {
+        for _ in 0..CELLS {
             let Some(heading) = self.first(cell) else {
                 return;
             };

@@ -1,4 +1,5 @@
--- `try_solver::sizes::distance` meets its contract: a size is at most 1,000 and a number of steps below 65,536, so their products are small.
+-- `try_solver::sizes::distance` meets its contract: a size is at most 1,000 and a number of steps below 65,536, so
+-- their products are small.
 use Rattle.std.proofs.Common.{arith}
 use Rattle.std.proofs.lemmas.Nat.{mul-le}
 use Rattle.try_solver.proofs.sizes.distance.Goals as goal
