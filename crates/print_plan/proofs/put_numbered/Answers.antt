@@ -1,8 +1,6 @@
 -- `print_plan::put_numbered` meets its contract: the query is the one with this number, and its line the line with it.
 use mathlib.Core.Path.{refl}
-use native.Mathlib.Omega.{arith}
-use lib.ListN.{length-take}
-use Rattle.print_plan.proofs.HeadLines.{head_opened, query_in, map_is, size_inside, floor_sound, cells_few, numbered}
+use Rattle.print_plan.proofs.HeadLines.{head_opened, query_in, map_is, size_inside, floor_sound, numbered}
 use Rattle.print_plan.proofs.put_numbered.Goals as goal
 
 -- the plan is sound, and no refusal of it holds: head_opened c.requires.heads _ refl
@@ -11,16 +9,6 @@ query_at-query-requires c =
     let n = c.requires.number_nonzero in
     query_in _ (head_opened c.requires.heads _ refl) _ n.0 n.1
 
-pub overflow_mul-cells : goal.overflow_mul-cells
-overflow_mul-cells c = omega (arith, cells_few _ (head_opened c.requires.heads _ refl))
-
-pub slice_bounds-put_query-end-2 : goal.slice_bounds-put_query-end-2
-slice_bounds-put_query-end-2 c = omega (arith, cells_few _ (head_opened c.requires.heads _ refl), c.requires.table_len)
-
-pub slice_bounds-put_query-end-3 : goal.slice_bounds-put_query-end-3
-slice_bounds-put_query-end-3 c =
-    simp length-take (omega (arith, cells_few _ (head_opened c.requires.heads _ refl), c.requires.table_len))
-
 pub put_query-requires-clause-size_value : goal.put_query-requires-clause-size_value
 put_query-requires-clause-size_value c = size_inside _ (head_opened c.requires.heads _ refl)
 
@@ -28,10 +16,6 @@ pub put_query-requires-clause-sound_floor : goal.put_query-requires-clause-sound
 put_query-requires-clause-sound_floor c =
     let o = head_opened c.requires.heads _ refl in
     floor_sound _ o _ (map_is _ o.taken)
-
-pub put_query-requires-clause-table_len : goal.put_query-requires-clause-table_len
-put_query-requires-clause-table_len c =
-    simp length-take (omega (arith, cells_few _ (head_opened c.requires.heads _ refl), c.requires.table_len))
 
 pub returns : goal.returns
 returns c =
