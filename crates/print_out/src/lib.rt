@@ -1,20 +1,24 @@
-// Reading what "ways" is given, and writing out what it prints. The reading and writing themselves are what is left unproved.
+// Reading what "ways" is given, and writing out what it prints.
 #![tactic(auto)]
 
+ghost use Rattle.std.specs.Prelude.{◌<◌, length, take, IfOk};
 ghost use Rattle.std.specs.Io.{ReadsAtMost};
+ghost use Rattle.std.specs.Io.KnownBytes.{Consumes, IsAtEnd};
 
 use std::io;
 use std::io::{Read, Write};
 
 // Reads until the buffer is full or the input ends: how many bytes it put at the buffer's start.
 pub fn read_full<R: Read>(reader: &mut R, buffer: &mut [u8]) -> io::Result<usize>
-    ensures { ReadsAtMost result buffer.new }
+    ensures at_most { ReadsAtMost result buffer.new }
+    ensures bytes { IfOk result (λ n. Consumes (R.remaining reader.old) (R.remaining reader.new) (take n buffer.new)) }
+    ensures end { IfOk result (λ n. n < length buffer.new → IsAtEnd (R.remaining reader.new)) }
 {
     let mut done = 0;
     while done < buffer.len() {
         let count = reader.read(&mut buffer[done..])?;
         if count == 0 {
-            break;
+            return Ok(done);
         }
         done += count;
     }
@@ -27,11 +31,8 @@ pub fn print_all<W: Write>(writer: &mut W, input: &[u8], out: &mut [u8]) -> io::
     while from < 65 {
         let printed = print_plan::print_lines(input, from, out);
         writer.write_all(&out[..printed.length])?;
-        if printed.left == 0 {
-            return Ok(());
-        }
-        if printed.lines == 0 {
-            return Ok(());
+        if printed.left == 0 || printed.lines == 0 {
+            break;
         }
         from += printed.lines;
     }
