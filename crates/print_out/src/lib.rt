@@ -1,9 +1,10 @@
 // Reading what "ways" is given, and writing out what it prints.
 #![tactic(auto)]
 
-ghost use Rattle.std.specs.Prelude.{◌<◌, length, take, IfOk};
+ghost use Rattle.std.specs.Prelude.{◌<◌, length, take, IfOk, OnOk};
 ghost use Rattle.std.specs.Io.{ReadsAtMost};
 ghost use Rattle.std.specs.Io.KnownBytes.{Consumes, IsAtEnd};
+ghost use Rattle.print_out.specs.Printed.{LinesWritten};
 
 use std::io;
 use std::io::{Read, Write};
@@ -25,16 +26,17 @@ pub fn read_full<R: Read>(reader: &mut R, buffer: &mut [u8]) -> io::Result<usize
     Ok(done)
 }
 
-// Writes the lines for the input, a buffer at a time. There are at most 65 lines.
-pub fn print_all<W: Write>(writer: &mut W, input: &[u8], out: &mut [u8]) -> io::Result<()> {
+// Writes the lines for the input, a buffer at a time.
+pub fn print_all<W: Write>(writer: &mut W, input: &[u8], out: &mut [u8]) -> io::Result<()>
+    ensures { OnOk result (LinesWritten input.now (length out.old) (W.contents writer.old) (W.contents writer.new)) }
+{
     let mut from = 0;
-    while from < 65 {
+    loop {
         let printed = print_plan::print_lines(input, from, out);
         writer.write_all(&out[..printed.length])?;
         if printed.left == 0 || printed.lines == 0 {
-            break;
+            return Ok(());
         }
         from += printed.lines;
     }
-    Ok(())
 }

@@ -63,3 +63,8 @@ put_then {old} {mid} {new} {a} {b} {at} {next} {after} first second =
       written = second.written ∙ ap₂ (λ (l : List ℕ) (p : ℕ). put l p b) first.written first.follows ∙ put_put old at a b;
       follows = omega (arith, first.follows, second.follows, length-append a b);
     }
+
+-- a buffer that was written from its front begins with what was written
+pub written_front : {old bytes new : List ℕ} {next : ℕ} → Put old 0 bytes new next → take next new ≡ bytes
+unfolding put
+written_front {old} {bytes} p = rw (p.written, p.follows) (take_at bytes (drop (0 + length bytes) old) (0 + length bytes) (omega arith))
