@@ -4,7 +4,7 @@
 ghost use Rattle.std.specs.Prelude.{◌<◌, length, take, IfOk, OnOk};
 ghost use Rattle.std.specs.Io.{ReadsAtMost};
 ghost use Rattle.std.specs.Io.KnownBytes.{Consumes, IsAtEnd};
-ghost use Rattle.print_out.specs.Printed.{LinesWritten};
+ghost use Rattle.print_out.specs.Printed.{LinesWritten, Ran};
 
 use std::io;
 use std::io::{Read, Write};
@@ -39,4 +39,14 @@ pub fn print_all<W: Write>(writer: &mut W, input: &[u8], out: &mut [u8]) -> io::
         }
         from += printed.lines;
     }
+}
+
+// Reads a plan, and writes its lines. One byte more than 4,096 at the most is ever needed.
+pub fn run<R: Read, W: Write>(reader: &mut R, writer: &mut W) -> io::Result<()>
+    ensures { OnOk result (Ran 4097 262144 (R.remaining reader.old) (R.remaining reader.new) (W.contents writer.old) (W.contents writer.new)) }
+{
+    let mut input = [0; 4097];
+    let length = read_full(reader, &mut input)?;
+    let mut out = [0; 262144];
+    print_all(writer, &input[..length], &mut out)
 }
