@@ -3,7 +3,7 @@ use mathlib.Core.List.{List, [], ◌∷◌, ◌++◌, append_assoc}
 use Prim.Native.Nat.{ℕ}
 use Rattle.print_text.specs.declared.Page.{Page}
 use Rattle.print_text.specs.Text.{newline, decimal, fields, fields_after, line}
-use Rattle.print_text.specs.Page.{Wrote}
+use Rattle.print_text.specs.inner.Page.{Wrote}
 use Rattle.print_text.proofs.Fields.{fields_append}
 use Rattle.print_text.proofs.Pages.{wrote_then}
 

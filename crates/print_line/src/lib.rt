@@ -7,7 +7,7 @@ ghost use Rattle.lengths.specs.Answers.{size_outside};
 ghost use Rattle.lengths.specs.Distance.{Spoken};
 ghost use Rattle.lengths.specs.inner.AtMost.{Within};
 ghost use Rattle.print_text.specs.Text.{line};
-ghost use Rattle.print_text.specs.Page.{HasRoom};
+ghost use Rattle.print_text.specs.inner.Page.{HasRoom};
 ghost use Rattle.print_line.specs.declared.Head.TheVariants as head;
 ghost use Rattle.print_line.specs.Head.{head_line};
 ghost use Rattle.print_line.specs.LineRoom.{line_room};
@@ -59,7 +59,7 @@ fn put_way(page: &mut Page<'_>, number: usize, centimetres: u32, way: Way, legs:
 
 // The centimetres of a length.
 fn centimetres_of(size: u32, way: Way) -> u32
-    requires size_value { size_outside size ≡ false }
+    requires size_inside { size_outside size ≡ false }
     requires within { Within way.length }
     ensures { Spoken size way.length result }
 {
@@ -72,7 +72,7 @@ fn centimetres_of(size: u32, way: Way) -> u32
 // Writes the line of a query's answer.
 pub fn put_answer(page: &mut Page<'_>, number: usize, size: u32, answer: Answer, legs: &[u8])
     requires room { HasRoom line_room page.old }
-    requires size_value { size_outside size ≡ false }
+    requires size_inside { size_outside size ≡ false }
     requires fits { Fits answer legs.now }
     ensures { Writes (AnswerLine size number legs.now answer) page.old page.new }
 {

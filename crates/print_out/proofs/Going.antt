@@ -12,7 +12,7 @@ use Rattle.print_plan.specs.declared.Printed.{Printed}
 use Rattle.print_plan.specs.Lines.{count_of, LineAt}
 use Rattle.print_plan.specs.Shown.{joined, Shown}
 use Rattle.print_plan.proofs.Unique.{line_below}
-use Rattle.print_out.specs.Printed.{LinesWritten}
+use Rattle.print_out.specs.inner.Printed.{LinesWritten}
 
 -- so many lines, from the first on, were written
 pub record Going (input : List ℕ) (from : ℕ) (old new : Option (List ℕ)) : Type 0 where

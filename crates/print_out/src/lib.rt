@@ -4,7 +4,7 @@
 ghost use Rattle.std.specs.Prelude.{◌<◌, length, take, IfOk, OnOk};
 ghost use Rattle.std.specs.Io.{ReadsAtMost};
 ghost use Rattle.std.specs.Io.KnownBytes.{Consumes, IsAtEnd};
-ghost use Rattle.print_out.specs.Printed.{LinesWritten, Ran};
+ghost use Rattle.print_out.specs.inner.Printed.{LinesWritten, Ran};
 
 use std::io;
 use std::io::{Read, Write};

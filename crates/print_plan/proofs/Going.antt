@@ -7,7 +7,7 @@ use borrow.Author.Count.{below_more}
 use lib.ListN.{length, get_or, take, length-append, get_or-append}
 use lib.Seq.{take_at, take-append-le, get_or-append_seam}
 use Rattle.print_text.specs.declared.Page.{Page}
-use Rattle.print_text.specs.Page.{HasRoom}
+use Rattle.print_text.specs.inner.Page.{HasRoom}
 use Rattle.print_text.proofs.Pages.{wrote_nothing, wrote_then}
 use Rattle.print_plan.specs.declared.Printed.{Printed}
 use Rattle.print_plan.specs.Shown.{joined, Shown}

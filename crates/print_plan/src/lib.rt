@@ -6,7 +6,7 @@ ghost use Rattle.io.specs.Counts.{IsPrefixLen};
 ghost use Rattle.lengths.specs.Answers.{size_outside};
 ghost use Rattle.floor.specs.Floor.{map_of};
 ghost use Rattle.floor.specs.inner.Ready.{SoundFloor};
-ghost use Rattle.print_text.specs.Page.{HasRoom};
+ghost use Rattle.print_text.specs.inner.Page.{HasRoom};
 ghost use Rattle.print_line.specs.declared.Head.TheVariants as head;
 ghost use Rattle.print_line.specs.LineRoom.{line_room};
 ghost use Rattle.print_line.specs.inner.Written.{Writes};
@@ -49,7 +49,7 @@ fn put_query(
     legs: &mut [u8; 32766],
 )
     requires room { HasRoom line_room page.old }
-    requires size_value { size_outside plan.size ≡ false }
+    requires size_inside { size_outside plan.size ≡ false }
     requires sound_floor { SoundFloor (map_of plan.width plan.height map.now) }
     ensures { Writes (QueryLine (map_of plan.width plan.height map.now) plan.size number query) page.old page.new }
 {
@@ -72,7 +72,7 @@ fn put_query(
 fn put_numbered(page: &mut Page<'_>, input: &[u8], plan: Plan, number: usize, work: &mut Work)
     requires room { HasRoom line_room page.old }
     requires heads { Heads input.now (head.Floor plan) }
-    requires number_nonzero { (0 < number) × (number ≤ plan.queries) }
+    requires number_in_plan { (0 < number) × (number ≤ plan.queries) }
     ensures { Writes (LineAt input.now number) page.old page.new }
 {
     let query = plan::query_at(input, plan.first_query + 12 * (number - 1));
@@ -86,7 +86,7 @@ fn put_numbered(page: &mut Page<'_>, input: &[u8], plan: Plan, number: usize, wo
 fn put_line(page: &mut Page<'_>, input: &[u8], head: Head, index: usize, work: &mut Work)
     requires room { HasRoom line_room page.old }
     requires heads { Heads input.now head }
-    requires index_bound { index < count_of head }
+    requires index_in_bounds { index < count_of head }
     ensures { Writes (LineAt input.now index) page.old page.new }
 {
     if index == 0 {

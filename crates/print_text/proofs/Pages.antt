@@ -9,7 +9,7 @@ use lib.Seq.{take-suc}
 use Rattle.print_text.specs.Text.{decimal, field, fields_after, fields}
 use Rattle.print_text.specs.declared.Page.{Page}
 use Rattle.print_text.specs.Put.{put}
-use Rattle.print_text.specs.Page.{HasRoom, Wrote}
+use Rattle.print_text.specs.inner.Page.{HasRoom, Wrote}
 use Rattle.print_text.proofs.Fields.{one_field_more}
 use Rattle.print_text.proofs.Puts.{none_put, put_then, length_put}
 

@@ -3,7 +3,7 @@ use mathlib.Core.Path.{◌≡◌, sym, ◌∙◌}
 use mathlib.Core.List.{List}
 use Prim.Native.Nat.{ℕ}
 use Rattle.print_text.specs.declared.Page.{Page}
-use Rattle.print_text.specs.Page.{Wrote}
+use Rattle.print_text.specs.inner.Page.{Wrote}
 use Rattle.print_text.proofs.Page.put_number.Reads as put-number
 use Rattle.print_text.proofs.Page.put_field.Reads as put-field
 use Rattle.print_text.proofs.Page.put_fields.Reads as put-fields

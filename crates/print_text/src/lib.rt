@@ -25,7 +25,7 @@ pub struct Page<'a> {
 impl<'a> Page<'a> {
     ghost use Rattle.std.specs.Prelude.{◌≡◌, [], ◌∷◌, ◌+◌, ◌*◌, ◌≤◌, length};
     ghost use Rattle.print_text.specs.Text.{newline, decimal, field, fields_after, fields, line};
-    ghost use Rattle.print_text.specs.Page.{HasRoom, Wrote, Begins};
+    ghost use Rattle.print_text.specs.inner.Page.{HasRoom, Wrote, Begins};
     ghost use Rattle.print_text.specs.inner.Space.{number_room, field_room, byte_room, numbers_room};
 
     // A page that is written from its buffer's front.

@@ -8,7 +8,7 @@ use Rattle.route.specs.declared.Answer.{Answer}
 use Rattle.route.specs.declared.Answer.TheVariants as answer
 use Rattle.print_text.specs.Text.{line}
 use Rattle.print_text.specs.declared.Page.{Page}
-use Rattle.print_text.specs.Page.{Wrote}
+use Rattle.print_text.specs.inner.Page.{Wrote}
 use Rattle.print_line.specs.LineRoom.{line_room}
 
 -- a line was written, in the room for one

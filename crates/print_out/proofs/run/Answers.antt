@@ -3,7 +3,7 @@ use Rattle.std.proofs.Common.{ℕ, ◌≡◌, ◌≤◌, ◌<◌, List, length, 
 use Rattle.std.specs.Prelude.{Option}
 use Rattle.std.specs.Io.KnownBytes.{Consumes, IsAtEnd}
 use Rattle.std.proofs.lemmas.Result.{on_ok_weaker}
-use Rattle.print_out.specs.Printed.{LinesWritten, Ran}
+use Rattle.print_out.specs.inner.Printed.{LinesWritten, Ran}
 use Rattle.print_out.proofs.run.Goals as goal
 
 ran : {most room n : ℕ} {a b w w' : Option (List ℕ)} (buffer : List ℕ) → length buffer ≡ most → n ≡ length (take n buffer) → Consumes a b (take n buffer)

@@ -6,11 +6,11 @@ use Rattle.print_plan.proofs.put_numbered.Goals as goal
 -- the plan is sound, and no refusal of it holds: head_opened c.requires.heads _ refl
 pub query_at-query-requires : goal.query_at-query-requires
 query_at-query-requires c =
-    let n = c.requires.number_nonzero in
+    let n = c.requires.number_in_plan in
     query_in _ (head_opened c.requires.heads _ refl) _ n.0 n.1
 
-pub put_query-requires-clause-size_value : goal.put_query-requires-clause-size_value
-put_query-requires-clause-size_value c = size_inside _ (head_opened c.requires.heads _ refl)
+pub put_query-requires-clause-size_inside : goal.put_query-requires-clause-size_inside
+put_query-requires-clause-size_inside c = size_inside _ (head_opened c.requires.heads _ refl)
 
 pub put_query-requires-clause-sound_floor : goal.put_query-requires-clause-sound_floor
 put_query-requires-clause-sound_floor c =
@@ -20,7 +20,7 @@ put_query-requires-clause-sound_floor c =
 pub returns : goal.returns
 returns c =
     let o = head_opened c.requires.heads _ refl in
-    let n = c.requires.number_nonzero in
+    let n = c.requires.number_in_plan in
     let w = c.put_query.ensures in
     let here = numbered _ o _ n.0 n.1 _ (map_is _ o.taken) _ c.query_at-query.ensures _ w.is in
     record { bytes = w.bytes; is = here; line_put = w.line_put }

@@ -21,7 +21,7 @@ pub slice_bounds-find_route-end : goal.slice_bounds-find_route-end
 slice_bounds-find_route-end c = few_cells _ c.requires.sound_floor
 
 pub overflow_cast-plan : goal.overflow_cast-plan
-overflow_cast-plan c = omega (arith, small_size _ c.requires.size_value)
+overflow_cast-plan c = omega (arith, small_size _ c.requires.size_inside)
 
 pub put_answer-requires-clause-fits : goal.put_answer-requires-clause-fits
 put_answer-requires-clause-fits c =

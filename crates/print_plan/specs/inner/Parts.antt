@@ -9,7 +9,7 @@ use Rattle.plan.specs.Sound.{Contents, Sound}
 use Rattle.plan.specs.Reads.{plan_of}
 use Rattle.print_text.specs.Text.{line}
 use Rattle.print_text.specs.declared.Page.{Page}
-use Rattle.print_text.specs.Page.{Wrote}
+use Rattle.print_text.specs.inner.Page.{Wrote}
 use Rattle.print_line.specs.LineRoom.{line_room}
 use Rattle.print_plan.specs.Query.{QueryNumbers}
 use Rattle.print_plan.specs.Lines.{map_in, plan_tests, LineAt}

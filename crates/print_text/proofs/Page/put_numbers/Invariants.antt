@@ -2,7 +2,7 @@
 use Prim.Native.Nat.{◌+◌, ◌*◌, ◌≤◌}
 use lib.ListN.{take}
 use Rattle.print_text.specs.Text.{fields_after}
-use Rattle.print_text.specs.Page.{Wrote}
+use Rattle.print_text.specs.inner.Page.{Wrote}
 use Rattle.print_text.specs.inner.Space.{field_room}
 use Rattle.print_text.proofs.Page.put_numbers.Given as goal
 
