@@ -6,8 +6,8 @@ ghost use Rattle.check_rows.specs.inner.Window.{differs_in, start_of, differs_at
 use crate::Window;
 use crate::cell_numbers::{NONE, WALL};
 
-// The row of the floor that stands in the window's middle row: its width, its first cell, and the goal's cell. Cells are
-// u32 here, as wide as the numbers of the window: with usize a check takes 7 % more instructions.
+// The row of the floor that stands in the window's middle row: its width, its first cell, and the goal's cell. Cells
+// are u32 here, as wide as the numbers of the window: with usize a check takes 7 % more instructions.
 #[derive(Clone, Copy)]
 pub struct Row {
     pub width: usize,
@@ -50,9 +50,9 @@ impl Window {
         self.differs(column, row.start_at(column))
     }
 
-    // How many cells of the row differ. A sum over all of them, with no way out, is done for several at a time; `filter`
-    // and `count` take twice as many instructions.
-    #[tactic(auto, using(crate::proofs::OneMore::differing_more, crate::proofs::OneMore::differing_low), unfolding(crate::specs::inner::Window::differing))]
+    // How many cells of the row differ. A sum over all of them, with no way out, is done for several at a time;
+    // `filter` and `count` take twice as many instructions.
+    #[tactic(auto, using(crate::proofs::OneMore::counting), unfolding(crate::specs::inner::Window::differing))]
     fn differing_in(&self, row: Row) -> u32
         ensures { result ≡ differing self.now.numbers row.goal row.first row.width }
     {
