@@ -86,14 +86,6 @@ module _ (m : Map) (t : List ℕ) (o : Ranking) where
           };
         }
 
-  pub going_start : (w : Walker) (h : ℕ) → Stands m t o w → Walked m t o w w 0 h
-  going_start w h s = record {
-    stands = s;
-    falls = omega arith;
-    first = λ e. refl;
-    split = λ hs a r. record { rest = hs; left = a; run = r; heads = refl; sum = refl };
-  }
-
   again_more : (n h : ℕ) (hs : List ℕ) → again n h (h ∷ hs) ≡ again (suc n) h hs
   again_more zero h hs = refl
   again_more (suc n) h hs = ap (λ (r : List ℕ). h ∷ r) (again_more n h hs)

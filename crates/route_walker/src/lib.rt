@@ -53,14 +53,15 @@ fn one_more(length: Length, heading: Heading) -> Length
     ensures { result ≡ length ⊕ weight heading.number }
 {
     if heading.is_diagonal() {
-        return Length {
+        Length {
             diagonal: length.diagonal + 1,
             ..length
-        };
-    }
-    Length {
-        straight: length.straight + 1,
-        ..length
+        }
+    } else {
+        Length {
+            straight: length.straight + 1,
+            ..length
+        }
     }
 }
 
@@ -135,7 +136,7 @@ impl Walk<'_> {
         requires { cell < cells (floor_map self.now.floor) }
         ensures { Starts (floor_map self.now.floor) self.now.table.now numbered cell result }
     {
-        // So the walker's counts have room for the steps that are left.
+        // A number is at most the mark, so the walker's counts have room for the steps that are left.
         prove!(self.table[cell] <= MARK);
         Walker {
             cell,
@@ -166,7 +167,8 @@ impl Walk<'_> {
     // The leg ahead, the longest run of the walker's next heading; none at the goal.
     pub fn leg(&self, walker: Walker) -> Option<WalkedLeg>
         requires { Stands (floor_map self.now.floor) self.now.table.now numbered walker }
-        ensures { MatchOption result (walker.next ≡ None) (Leads (floor_map self.now.floor) self.now.table.now numbered walker) }
+        ensures { MatchOption result (walker.next ≡ None)
+            (Leads (floor_map self.now.floor) self.now.table.now numbered walker) }
     {
         let heading = walker.next?;
         let mut after = walker;
