@@ -1,341 +1,132 @@
-// The families of trials, each of one plan: every floor of a shape, given floors, floors that look random, sets of lengths, and planted faults.
-ghost use Rattle.std.specs.Prelude.{◌≤◌, ◌<◌};
+// The families of floors on which calls are tried: every floor of some shapes, given ones, and floors that look random.
+use crate::{bent, trial};
+use try_calls::Bench;
+use try_floors::floors;
+use try_floors::floors::Pattern;
+use try_floors::random::Random;
+use try_solver::ask::Sides;
 
-use crate::trial::Trial;
-use crate::{bent, measures, trial};
-use try_calls::ROOM;
-use try_floors::{floors, random};
-use try_solver::grid;
-use try_solver::grid::{MAP, WORDS};
-
-// A family: its plan, how many floors it has, and their sides; of floors that look random the longest side, 12, 40 or 128.
-#[derive(Clone, Copy)]
-struct Family {
-    plan: usize,
-    floors: u64,
-    width: usize,
-    height: usize,
-}
-
-// How many families there are, and the one of planted faults, which is the last.
-const FAMILIES: usize = 26;
-
-pub const FAULTY: usize = 25;
-
-// The families: shapes of up to 3 by 3 cells, which are tried thoroughly, and longer ones; a fork of two ways of almost one length, and the
-// largest floor, with one way that winds through all of it; many small floors and some larger ones; lengths; faults on the floor of 5 by 3
-// cells whose middle one is blocked.
-const ALL: [Family; FAMILIES] = [
-    Family {
-        plan: trial::EVERY,
-        floors: 2,
-        width: 1,
-        height: 1,
-    },
-    Family {
-        plan: trial::EVERY,
-        floors: 4,
-        width: 1,
-        height: 2,
-    },
-    Family {
-        plan: trial::EVERY,
-        floors: 8,
-        width: 1,
-        height: 3,
-    },
-    Family {
-        plan: trial::EVERY,
-        floors: 4,
-        width: 2,
-        height: 1,
-    },
-    Family {
-        plan: trial::EVERY,
-        floors: 16,
-        width: 2,
-        height: 2,
-    },
-    Family {
-        plan: trial::EVERY,
-        floors: 64,
-        width: 2,
-        height: 3,
-    },
-    Family {
-        plan: trial::EVERY,
-        floors: 8,
-        width: 3,
-        height: 1,
-    },
-    Family {
-        plan: trial::EVERY,
-        floors: 64,
-        width: 3,
-        height: 2,
-    },
-    Family {
-        plan: trial::EVERY,
-        floors: 512,
-        width: 3,
-        height: 3,
-    },
-    Family {
-        plan: trial::EVERY,
-        floors: 256,
-        width: 1,
-        height: 8,
-    },
-    Family {
-        plan: trial::EVERY,
-        floors: 256,
-        width: 8,
-        height: 1,
-    },
-    Family {
-        plan: trial::EVERY,
-        floors: 512,
-        width: 1,
-        height: 9,
-    },
-    Family {
-        plan: trial::EVERY,
-        floors: 512,
-        width: 9,
-        height: 1,
-    },
-    Family {
-        plan: trial::EVERY,
-        floors: 1024,
-        width: 2,
-        height: 5,
-    },
-    Family {
-        plan: trial::EVERY,
-        floors: 1024,
-        width: 5,
-        height: 2,
-    },
-    Family {
-        plan: trial::EVERY,
-        floors: 4096,
-        width: 4,
-        height: 3,
-    },
-    Family {
-        plan: trial::FORK,
-        floors: 1,
-        width: 103,
-        height: 71,
-    },
-    Family {
-        plan: trial::WALLS,
-        floors: 1,
-        width: 128,
-        height: 128,
-    },
-    Family {
-        plan: trial::SOME,
-        floors: 40000,
-        width: 12,
-        height: 12,
-    },
-    Family {
-        plan: trial::SOME,
-        floors: 400,
-        width: 40,
-        height: 40,
-    },
-    Family {
-        plan: trial::SOME,
-        floors: 40,
-        width: 128,
-        height: 128,
-    },
-    Family {
-        plan: trial::SMALL_LENGTHS,
-        floors: 1,
-        width: 0,
-        height: 0,
-    },
-    Family {
-        plan: trial::NEAR_LENGTHS,
-        floors: 1,
-        width: 0,
-        height: 0,
-    },
-    Family {
-        plan: trial::DIAGONALS,
-        floors: 1,
-        width: 0,
-        height: 0,
-    },
-    Family {
-        plan: trial::ANY_LENGTHS,
-        floors: 1,
-        width: 0,
-        height: 0,
-    },
-    Family {
-        plan: trial::FAULTS,
-        floors: 1,
-        width: 5,
-        height: 3,
-    },
+// Widths and heights of which every floor is tried: up to 3 by 3 cells, and longer ones.
+const SHAPES: [(usize, usize); 16] = [
+    (1, 1),
+    (1, 2),
+    (1, 3),
+    (2, 1),
+    (2, 2),
+    (2, 3),
+    (3, 1),
+    (3, 2),
+    (3, 3),
+    (1, 8),
+    (8, 1),
+    (1, 9),
+    (9, 1),
+    (2, 5),
+    (5, 2),
+    (4, 3),
 ];
 
-// A side around a multiple of 8, from a number; in the middle also around 19 rows, from which on the library takes more memory.
-fn edge_from(state: u64, most: usize) -> usize {
-    match most {
-        12 => 7 + random::below(state, 3),
-        40 => 15 + random::below(state, 6),
-        _ => 63 + random::below(state, 3),
+// Tries every floor of a shape, by the digits of its cells, of which no shape has 64.
+fn try_shape(bench: &mut Bench, sides: Sides) {
+    for digits in 0..1u64 << (sides.cells() % 64) {
+        floors::lay(sides, Pattern::Digits(digits), Random(0), &mut bench.map);
+        trial::try_every(bench, sides, Random(digits + 1).next());
     }
 }
 
-// A side of a floor that looks random, from a number.
-fn side_from(state: u64, most: usize) -> usize {
-    if random::below(random::next(state), 4) == 0 {
-        return edge_from(state, most);
-    }
-    match most {
-        12 => 1 + random::below(state, 12),
-        40 => 13 + random::below(state, 28),
-        _ => 120 + random::below(state, 9),
-    }
+// Tries a fork of two ways of almost one length.
+fn try_fork(bench: &mut Bench) {
+    let sides = Sides {
+        width: 103,
+        height: 71,
+    };
+    floors::lay(sides, Pattern::Fork, Random(0), &mut bench.map);
+    trial::try_given(bench, sides, 5150, 5149);
 }
 
-// A pattern, from a number: several densities, and walls.
-fn pattern_from(state: u64) -> usize {
-    match random::below(state, 10) {
-        0 => 0,
-        1 => 5,
-        2 => 15,
-        3 => 25,
-        4 => 30,
-        5 => 35,
-        6 => 40,
-        7 => 50,
-        8 => 65,
-        _ => floors::WALLS,
+// Tries the largest floor, with one way that winds through all of it.
+fn try_walls(bench: &mut Bench) {
+    let sides = Sides {
+        width: 128,
+        height: 128,
+    };
+    floors::lay(sides, Pattern::Walls, Random(0), &mut bench.map);
+    trial::try_given(bench, sides, 0, 16383);
+}
+
+// How large floors that look random are: up to 12, 40 or 128 cells to a side.
+#[derive(Clone, Copy, PartialEq, Eq)]
+enum Size {
+    Small,
+    Middle,
+    Large,
+}
+
+impl Size {
+    // A side around a multiple of 8; in the middle also around 19 rows, from which on the library takes more memory.
+    fn edge(self, random: Random) -> usize {
+        match self {
+            Size::Small => 7 + random.below(3),
+            Size::Middle => 15 + random.below(6),
+            Size::Large => 63 + random.below(3),
+        }
     }
-}
 
-// Lays a floor that looks random, and tries it, and then bent calls on it, where the last byte of a row may have a bit set past the width: the
-// state after it.
-fn try_some(
-    most: usize,
-    seed: u64,
-    map: &mut [u8; MAP],
-    words: &mut [u32; WORDS],
-    legs: &mut [u8; ROOM],
-) -> u64 {
-    let width = side_from(random::later(seed, 1), most);
-    let height = side_from(random::later(seed, 2), most);
-    let pattern = pattern_from(random::later(seed, 3));
-    let laid = floors::lay(width, height, pattern, random::later(seed, 4), map);
-    let state = random::next(laid);
-    trial::run(
-        trial::some(width, height, most == 128, state),
-        map,
-        words,
-        legs,
-    );
-    floors::pad_some(map, grid::times(height, grid::bytes_across(width)), state);
-    trial::run(bent::trial_on(width, height, state), map, words, legs);
-    state
-}
-
-// The trial on a floor of a family, after it is laid.
-fn trial_of(family: Family, nth: u64) -> Trial {
-    let plan = family.plan;
-    match plan {
-        trial::EVERY => trial::every(family.width, family.height, nth),
-        trial::FORK => trial::given(family.width, family.height, 5150, 5149),
-        trial::WALLS => trial::given(family.width, family.height, 0, 16383),
-        trial::FAULTS => bent::faults_on(family.width, family.height),
-        _ => measures::trial_of(plan),
+    // A side.
+    fn side(self, random: Random) -> usize {
+        if random.next().below(4) == 0 {
+            return self.edge(random);
+        }
+        match self {
+            Size::Small => 1 + random.below(12),
+            Size::Middle => 13 + random.below(28),
+            Size::Large => 120 + random.below(9),
+        }
     }
 }
 
-// The pattern of a family's floors.
-fn pattern_of(plan: usize) -> usize {
-    match plan {
-        trial::FORK => floors::FORK,
-        trial::WALLS => floors::WALLS,
-        _ => floors::DIGITS,
+// How many of a hundred cells are blocked on a floor that looks random.
+const DENSITIES: [usize; 9] = [0, 5, 15, 25, 30, 35, 40, 50, 65];
+
+// One of the densities, or walls.
+fn pattern_from(random: Random) -> Pattern {
+    match DENSITIES.get(random.below(10)) {
+        Some(hundredths) => Pattern::Density(*hundredths),
+        None => Pattern::Walls,
     }
 }
 
-// The seed of a family's n-th floor: the digits of its cells.
-fn digits_of(plan: usize, nth: u64) -> u64 {
-    if plan == trial::FAULTS {
-        return 128;
-    }
-    nth
+// Lays a floor that looks random, and tries it, and then bent calls on it, where the last byte of a row may have a bit
+// set past the width: the number after it.
+fn try_random(bench: &mut Bench, size: Size, seed: Random) -> Random {
+    let sides = Sides {
+        width: size.side(seed.later(1)),
+        height: size.side(seed.later(2)),
+    };
+    let pattern = pattern_from(seed.later(3));
+    let random = floors::lay(sides, pattern, seed.later(4), &mut bench.map).next();
+    trial::try_some(bench, sides, random, size == Size::Large);
+    floors::pad_some(&mut bench.map, sides.bytes(), random);
+    bent::try_on(bench, sides, random);
+    random
 }
 
-// Tries the n-th floor of a family: the state after it.
-fn try_floor(
-    family: Family,
-    nth: u64,
-    state: u64,
-    map: &mut [u8; MAP],
-    words: &mut [u32; WORDS],
-    legs: &mut [u8; ROOM],
-) -> u64 {
-    if family.plan == trial::SOME {
-        return try_some(family.width, state, map, words, legs);
-    }
-    let digits = digits_of(family.plan, nth);
-    floors::lay(
-        family.width,
-        family.height,
-        pattern_of(family.plan),
-        digits,
-        map,
-    );
-    trial::run(trial_of(family, nth), map, words, legs);
-    state
-}
-
-// The state from which floors that look random begin.
-fn first_state(most: usize) -> u64 {
-    match most {
-        12 => 11,
-        40 => 12,
-        _ => 13,
+// Tries so many floors of a size that look random.
+fn try_size(bench: &mut Bench, size: Size, count: usize, seed: Random) {
+    let mut random = seed;
+    for _ in 0..count {
+        random = try_random(bench, size, random);
     }
 }
 
-// Tries every floor of a family.
-fn try_floors(
-    family: Family,
-    map: &mut [u8; MAP],
-    words: &mut [u32; WORDS],
-    legs: &mut [u8; ROOM],
-) {
-    let mut state = first_state(family.width);
-    for nth in 0..family.floors {
-        state = try_floor(family, nth, state, map, words, legs);
+// Tries every floor: those of the shapes, the given ones, and many small floors that look random and some larger ones.
+pub fn try_all(bench: &mut Bench) {
+    for (width, height) in SHAPES {
+        try_shape(bench, Sides { width, height });
     }
-}
-
-// One of the families.
-fn family_of(which: usize) -> Family
-    requires { which < 26 }
-{
-    ALL[which]
-}
-
-// Tries one of the families.
-pub fn try_family(
-    which: usize,
-    map: &mut [u8; MAP],
-    words: &mut [u32; WORDS],
-    legs: &mut [u8; ROOM],
-)
-    requires { which < 26 }
-{
-    try_floors(family_of(which), map, words, legs);
+    try_fork(bench);
+    try_walls(bench);
+    try_size(bench, Size::Small, 40000, Random(11));
+    try_size(bench, Size::Middle, 400, Random(12));
+    try_size(bench, Size::Large, 40, Random(13));
 }

@@ -1,140 +1,128 @@
 // Comparisons of lengths, and distances.
-ghost use Rattle.std.specs.Prelude.{◌<◌};
-
 use crate::trial;
-use crate::trial::Trial;
-use try_floors::random;
-use try_solver::ask::{Call, Said};
-use try_solver::{ask, sizes};
+use try_calls::Bench;
+use try_floors::random::Random;
+use try_solver::ask::{Call, Kind, Length, Sides};
+use try_solver::sizes;
 
-// A comparison of two lengths.
-fn compared(straight: u32, diagonal: u32, other_straight: u32, other_diagonal: u32) -> Call {
-    let mut call = trial::of(trial::call_on(0, 0), ask::COMPARISONS);
-    call.straight = straight;
-    call.diagonal = diagonal;
-    call.other_straight = other_straight;
-    call.other_diagonal = other_diagonal;
-    call
+// So many straight steps, and so many diagonal ones.
+fn length_of(straight: u32, diagonal: u32) -> Length {
+    Length { straight, diagonal }
 }
 
-// A distance.
-fn distance(size: u32, straight: u32, diagonal: u32) -> Call {
-    let mut call = trial::of(trial::call_on(0, 0), ask::DISTANCES);
-    call.size = size;
-    call.straight = straight;
-    call.diagonal = diagonal;
-    call
-}
-
-// The distance of a route that was found, at a cell size that its length gives.
-pub fn spoken(call: Call, found: Said) -> Call {
-    if found.number != 0 {
-        return trial::of(call, trial::NOTHING);
+// A call that has no floor.
+fn off_floor(kind: Kind) -> Call {
+    let sides = Sides {
+        width: 0,
+        height: 0,
+    };
+    Call {
+        kind,
+        ..trial::on_floor(sides)
     }
-    let values = found.values;
-    let straight = (values[0] % 16384) as u32;
-    let diagonal = (values[1] % 16384) as u32;
-    distance(
-        1 + (31 * straight + 17 * diagonal) % 1000,
-        straight,
-        diagonal,
-    )
+}
+
+// Tries a comparison of two lengths.
+fn try_compared(bench: &mut Bench, length: Length, other: Length) {
+    bench.attempt(Call {
+        length,
+        other,
+        ..off_floor(Kind::Comparisons)
+    });
+}
+
+// Tries a distance.
+fn try_distance(bench: &mut Bench, size: u32, length: Length) {
+    bench.attempt(Call {
+        size,
+        length,
+        ..off_floor(Kind::Distances)
+    });
+}
+
+// Tries the distance of a route of so many straight and diagonal steps, at a cell size that they give.
+pub fn try_spoken(bench: &mut Bench, straight: usize, diagonal: usize) {
+    let straight = (straight % 16384) as u32;
+    let diagonal = (diagonal % 16384) as u32;
+    let size = 1 + (31 * straight + 17 * diagonal) % 1000;
+    try_distance(bench, size, length_of(straight, diagonal));
+}
+
+// Tries every two lengths with parts up to 12.
+fn try_small(bench: &mut Bench) {
+    for n in 0..28561 {
+        let length = length_of(n % 13, n / 13 % 13);
+        let other = length_of(n / 169 % 13, n / 2197);
+        try_compared(bench, length, other);
+    }
+}
+
+// Tries each count of diagonal steps with the nearest count of straight ones and with one more, both ways round.
+fn try_near(bench: &mut Bench) {
+    for diagonal in 1..16385 {
+        let nearest = sizes::nearest_to(diagonal);
+        let aslant = length_of(0, diagonal);
+        let near = length_of(nearest, 0);
+        let next = length_of(nearest + 1, 0);
+        try_compared(bench, near, aslant);
+        try_compared(bench, next, aslant);
+        try_compared(bench, aslant, near);
+        try_compared(bench, aslant, next);
+    }
+}
+
+// Tries the distance of each count of diagonal steps, at several cell sizes.
+fn try_diagonals(bench: &mut Bench) {
+    for diagonal in 0..16385 {
+        try_distance(bench, 1, length_of(0, diagonal));
+        try_distance(bench, 50, length_of(7, diagonal));
+        try_distance(bench, 99, length_of(0, diagonal));
+        try_distance(bench, 997, length_of(16383, diagonal));
+        try_distance(bench, 1000, length_of(16383, diagonal));
+    }
 }
 
 // A part of a length, from a number: small ones, ones around the limit, and any.
-fn part_from(state: u64) -> u32 {
-    let part = random::below(random::next(state), 16384) as u32;
-    match random::below(state, 8) {
+fn part_from(random: Random) -> u32 {
+    let part = random.next().below(16384) as u32;
+    match random.below(8) {
         0 => part % 13,
         1 => 16380 + part % 6,
-        2 => 4294967295 - part,
+        2 => u32::MAX - part,
         _ => part,
     }
 }
 
 // A cell size, from a number: around its limits, and any.
-fn size_from(state: u64) -> u32 {
-    let size = random::below(random::next(state), 1000) as u32;
-    match random::below(state, 8) {
+fn size_from(random: Random) -> u32 {
+    let size = random.next().below(1000) as u32;
+    match random.below(8) {
         0 => size % 3,
         1 => 999 + size % 3,
-        2 => 4294967295 - size,
+        2 => u32::MAX - size,
         _ => size + 1,
     }
 }
 
-// The n-th of every two lengths with parts up to 12.
-fn small(n: u32) -> Call {
-    compared(n % 13, n / 13 % 13, n / 169 % 13, n / 2197)
+// Tries lengths that look random, compared with others and spoken.
+fn try_any(bench: &mut Bench, random: Random) {
+    let straight = part_from(random);
+    let diagonal = part_from(random.later(2));
+    let other = part_from(random.later(4));
+    let length = length_of(straight, diagonal);
+    try_compared(bench, length, length_of(other, diagonal));
+    try_compared(bench, length, length_of(diagonal, other));
+    try_distance(bench, size_from(random.later(6)), length);
 }
 
-// Each count of diagonal steps with the nearest count of straight ones and with one more, both ways round.
-fn near(n: u32) -> Call {
-    let diagonal = n / 4 % 16384 + 1;
-    let nearest = sizes::nearest_to(diagonal);
-    match n % 4 {
-        0 => compared(nearest, 0, 0, diagonal),
-        1 => compared(nearest + 1, 0, 0, diagonal),
-        2 => compared(0, diagonal, nearest, 0),
-        _ => compared(0, diagonal, nearest + 1, 0),
+// Tries every set of lengths.
+pub fn try_all(bench: &mut Bench) {
+    try_small(bench);
+    try_near(bench);
+    try_diagonals(bench);
+    let mut random = Random(7);
+    for _ in 0..100000 {
+        try_any(bench, random);
+        random = random.later(9);
     }
-}
-
-// The distance of each count of diagonal steps, at several cell sizes.
-fn diagonals(n: u32) -> Call {
-    let diagonal = n / 5;
-    match n % 5 {
-        0 => distance(1, 0, diagonal),
-        1 => distance(50, 7, diagonal),
-        2 => distance(99, 0, diagonal),
-        3 => distance(997, 16383, diagonal),
-        _ => distance(1000, 16383, diagonal),
-    }
-}
-
-// Lengths that look random, compared with others and spoken.
-fn any(state: u64, n: u32) -> Call {
-    let straight = part_from(state);
-    let diagonal = part_from(random::later(state, 2));
-    let other = part_from(random::later(state, 4));
-    match n % 3 {
-        0 => compared(straight, diagonal, other, diagonal),
-        1 => compared(straight, diagonal, diagonal, other),
-        _ => distance(size_from(random::later(state, 6)), straight, diagonal),
-    }
-}
-
-// The seed after the n-th of these.
-pub fn seed_after(seed: u64, n: usize) -> u64 {
-    if n % 3 == 2 {
-        return random::later(seed, 9);
-    }
-    seed
-}
-
-// The n-th call of a set of lengths.
-pub fn measured(trial: Trial, n: usize) -> Call {
-    let which = (n % 1000000) as u32;
-    let plan = trial.plan;
-    match plan {
-        trial::SMALL_LENGTHS => small(which),
-        trial::NEAR_LENGTHS => near(which),
-        trial::DIAGONALS => diagonals(which),
-        _ => any(trial.seed, which),
-    }
-}
-
-// How many calls a set of lengths has.
-fn calls_of(plan: usize) -> usize {
-    match plan {
-        trial::SMALL_LENGTHS => 28561,
-        trial::NEAR_LENGTHS => 65536,
-        trial::DIAGONALS => 81925,
-        _ => 300000,
-    }
-}
-
-// The trial of a set of lengths.
-pub fn trial_of(plan: usize) -> Trial {
-    trial::blank(plan, trial::call_on(0, 0), 7, calls_of(plan))
 }

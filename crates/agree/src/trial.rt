@@ -1,371 +1,181 @@
-// A trial: a run of calls, each found from its number in the run. On a floor these are the floor itself, rooms, and for each goal a table, true
-// and altered, checked and read, and routes to the goal with leg buffers of several lengths.
-ghost use Rattle.std.specs.Prelude.{◌≤◌, ◌<◌};
+// What is tried on a floor: the floor itself, rooms, and for each goal a table, true and altered, checked and read, and
+// routes to the goal with leg buffers of several lengths.
+ghost use Rattle.std.specs.Prelude.{◌≤◌};
 
-use crate::{bent, measures};
-use try_calls::{ROOM, alter, tally};
-use try_floors::random;
-use try_solver::ask::{Call, Said};
-use try_solver::grid::{MAP, WORDS};
-use try_solver::{ask, grid};
+use crate::measures;
+use try_calls::alter::Alteration;
+use try_calls::{Bench, Trial};
+use try_floors::random::Random;
+use try_solver::ask::{Call, Kind, Length, Sides, Spot};
 
-// The plans: every room, goal and start of a floor; some of them; given ones, on a fork and between walls; calls that are to be refused; sets of
-// lengths; planted faults.
-pub const EVERY: usize = 0;
-
-pub const SOME: usize = 1;
-
-pub const FORK: usize = 2;
-
-pub const WALLS: usize = 3;
-
-pub const BENT: usize = 4;
-
-pub const SMALL_LENGTHS: usize = 5;
-
-pub const NEAR_LENGTHS: usize = 6;
-
-pub const DIAGONALS: usize = 7;
-
-pub const ANY_LENGTHS: usize = 8;
-
-pub const FAULTS: usize = 9;
-
-// A trial: its plan, how many calls it has, its seed, the call that its calls are made of, some cells, how many calls come before the goals, how
-// many goals there are and how many starts for each, of which so many are tried thoroughly, and the last route that was found.
-#[derive(Clone, Copy)]
-pub struct Trial {
-    pub plan: usize,
-    pub calls: usize,
-    pub seed: u64,
-    pub call: Call,
-    pub cells: [usize; 4],
-    pub firsts: usize,
-    pub goals: usize,
-    pub starts: usize,
-    pub thorough: usize,
-    pub found: Said,
+// The spot of a cell of a floor, or just off it.
+fn spot_of(sides: Sides, cell: usize) -> Spot {
+    let width = sides.width.max(1);
+    Spot {
+        column: cell % width,
+        row: cell / width,
+    }
 }
 
-// A call of a trial, and the way in which the table is altered before it.
-#[derive(Clone, Copy)]
-pub struct Step {
-    pub call: Call,
-    pub way: usize,
-}
-
-// No kind of call: nothing is tried.
-pub const NOTHING: usize = 99;
-
-// A call of a kind.
-pub fn of(call: Call, kind: usize) -> Call {
-    let mut made = call;
-    made.kind = kind;
-    made.line = kind;
-    made
-}
-
-// A call from a cell of the floor, or from just off it.
+// A call from a cell.
 pub fn from(call: Call, cell: usize) -> Call {
-    let width = call.width;
-    if width == 0 {
-        return call;
-    }
-    let mut made = call;
-    made.from_column = cell % width;
-    made.from_row = cell / width;
-    made
-}
-
-// A call to a cell of the floor, or to just off it.
-pub fn to(call: Call, cell: usize) -> Call {
-    let width = call.width;
-    if width == 0 {
-        return call;
-    }
-    let mut made = call;
-    made.column = cell % width;
-    made.row = cell / width;
-    made
-}
-
-// A route with so much room for legs.
-fn route(call: Call, kind: usize, room: usize) -> Call {
-    let mut made = of(call, kind);
-    made.room = room;
-    made
-}
-
-// A call on a floor, over its whole map and table.
-pub fn call_on(width: usize, height: usize) -> Call {
     Call {
-        kind: ask::FLOORS,
-        line: ask::FLOORS,
-        plant: 0,
-        width,
-        height,
-        bytes: grid::times(height, grid::bytes_across(width)),
-        entries: grid::times(height, width),
-        room: 0,
-        from_column: 0,
-        from_row: 0,
-        column: 0,
-        row: 0,
-        size: 0,
+        start: spot_of(call.sides, cell),
+        ..call
+    }
+}
+
+// A call to a cell.
+pub fn to(call: Call, cell: usize) -> Call {
+    Call {
+        goal: spot_of(call.sides, cell),
+        ..call
+    }
+}
+
+// A call on a floor, over its whole map and table: accepting it.
+pub fn on_floor(sides: Sides) -> Call {
+    let spot = Spot { column: 0, row: 0 };
+    let length = Length {
         straight: 0,
         diagonal: 0,
-        other_straight: 0,
-        other_diagonal: 0,
+    };
+    Call {
+        kind: Kind::Floors,
+        sides,
+        bytes: sides.bytes(),
+        entries: sides.cells(),
+        room: 0,
+        start: spot,
+        goal: spot,
+        size: 0,
+        length,
+        other: length,
     }
 }
 
-// A trial of so many calls, with nothing else set.
-pub fn blank(plan: usize, call: Call, seed: u64, calls: usize) -> Trial {
-    Trial {
-        plan,
-        calls,
-        seed,
-        call,
-        cells: [0usize; 4],
-        firsts: 0,
-        goals: 0,
-        starts: 0,
-        thorough: 0,
-        found: ask::refused(9, 0),
-    }
-}
-
-// How many calls there are to one goal: 18 over its table, and 10 for each start.
-fn calls_to_goal(starts: usize) -> usize
-    ensures { 18 ≤ result }
-{
-    18 + grid::times(10, starts)
-}
-
-// How many calls there are, with some before the goals.
-fn calls_of(firsts: usize, goals: usize, starts: usize) -> usize {
-    firsts % 1000 + grid::times(18, goals) + 10 * grid::times(goals, starts)
-}
-
-// The trial of every room, goal and start of a floor, and of the first off it; of floors of up to 3 by 3 cells thoroughly.
-pub fn every(width: usize, height: usize, nth: u64) -> Trial {
-    let call = call_on(width, height);
-    let ends = call.entries % 1000 + 1;
-    let seed = random::next(nth % 1000000 + 1);
-    let mut trial = blank(EVERY, call, seed, calls_of(ends + 1, ends, ends));
-    trial.firsts = ends + 1;
-    trial.goals = ends;
-    trial.starts = ends;
-    if width <= 3 && height <= 3 {
-        trial.thorough = ends;
-    }
-    trial
-}
-
-// A cell, from a number: the fourth of four that are picked.
-fn cell_from(call: Call, seed: u64) -> usize {
-    random::pick(random::later(seed, 3), call.entries)
-}
-
-// The trial of some rooms, a goal and some starts of a floor, the first start thoroughly, unless the floor is large.
-pub fn some(width: usize, height: usize, large: bool, seed: u64) -> Trial {
-    let call = call_on(width, height);
-    let mut trial = blank(SOME, call, seed, calls_of(4, 1, 3));
-    trial.firsts = 4;
-    trial.goals = 1;
-    trial.starts = 3;
-    trial.thorough = !large as usize;
-    trial.cells = [
-        cell_from(call, seed),
-        cell_from(call, random::later(seed, 5)),
-        cell_from(call, random::later(seed, 10)),
-        cell_from(call, random::later(seed, 15)),
-    ];
-    trial
-}
-
-// The trial of a goal and a start.
-pub fn given(width: usize, height: usize, start: usize, goal: usize) -> Trial {
-    let mut trial = blank(FORK, call_on(width, height), 17, calls_of(0, 1, 1));
-    trial.goals = 1;
-    trial.starts = 1;
-    trial.thorough = 1;
-    trial.cells = [goal, start, 0, 0];
-    trial
-}
-
-// The n-th of a trial's cells.
-fn cell_of(trial: Trial, n: usize) -> usize {
-    if trial.plan == EVERY {
-        return n;
-    }
-    let cells = trial.cells;
-    cells[n % 4]
-}
-
-// The n-th of a trial's starts.
-fn start_of(trial: Trial, n: usize) -> usize {
-    if trial.plan == EVERY {
-        return n;
-    }
-    let cells = trial.cells;
-    cells[(n % 4 + 1) % 4]
-}
-
-// Twice a number of legs.
-fn twice(legs: usize) -> usize
+// The bytes that so many legs take, or 16,384 of them.
+fn bytes_of(legs: usize) -> usize
     ensures { result ≤ 32768 }
 {
-    if legs < 16384 {
-        return 2 * legs;
-    }
-    32768
+    2 * legs.min(16384)
 }
 
-// One less, down to 0.
-pub fn one_less(n: usize) -> usize {
-    if n == 0 {
-        return 0;
-    }
-    n - 1
+// Asks for the room around a cell.
+fn try_room(bench: &mut Bench, call: Call, cell: usize) {
+    let call = Call {
+        kind: Kind::Rooms,
+        ..from(call, cell)
+    };
+    bench.attempt(call);
 }
 
-// Room for legs: a little more than they take, as much, one byte less, and none.
-fn room_for(legs: usize, which: usize) -> usize {
-    let bytes = twice(legs);
-    match which {
-        0 => bytes + 3,
-        1 => bytes,
-        2 => one_less(bytes),
-        _ => 0,
-    }
-}
-
-// The line of a check of a table that is altered in one of the ways.
-fn line_of(way: usize) -> usize {
-    match way {
-        0 => ask::CHECKS,
-        1 => tally::ONE_ALTERED,
-        2 => tally::SOME_ALTERED,
-        _ => tally::OTHER_CHECKS,
-    }
-}
-
-// A call with the table as it stands.
-fn plainly(call: Call) -> Step {
-    Step { call, way: 0 }
-}
-
-// The n-th call over a goal's table: for each way it is filled, then altered and checked, then a route is read from it.
-fn over_table(call: Call, n: usize) -> Step {
-    let way = n / 3;
-    match n % 3 {
-        0 => plainly(of(call, ask::TABLES)),
-        1 => {
-            let mut check = of(call, ask::CHECKS);
-            check.line = line_of(way);
-            Step { call: check, way }
-        }
-        _ => plainly(route(call, ask::READ_ROUTES, twice(call.entries))),
+// Fills the goal's table, checks it after it is altered in each way, and reads a route from it as it then stands.
+fn try_table(bench: &mut Bench, call: Call, seed: Random) {
+    let fill = Call {
+        kind: Kind::Tables,
+        ..call
+    };
+    let check = Call {
+        kind: Kind::Checks,
+        ..call
+    };
+    let read = Call {
+        kind: Kind::ReadRoutes,
+        room: bytes_of(call.entries),
+        ..call
+    };
+    for alteration in Alteration::ALL {
+        bench.attempt(fill);
+        bench.alter(alteration, call.entries, seed);
+        bench.attempt_trial(Trial {
+            line: alteration.line(),
+            ..Trial::from(check)
+        });
+        bench.attempt(read);
     }
 }
 
-// The n-th call between two cells: a route found with more room than it can take; its distance; then with each of the rooms the route read from
-// the table so filled, and found, of which only the first is tried if not thoroughly.
-fn between(call: Call, found: Said, thorough: bool, n: usize) -> Call {
-    let legs = try_calls::legs_of(found);
-    if n == 0 {
-        return route(call, ask::FOUND_ROUTES, twice(call.entries));
-    }
-    if n == 1 {
-        return measures::spoken(call, found);
-    }
-    if 2 < n && !thorough {
-        return of(call, NOTHING);
-    }
-    if n < 6 {
-        return route(call, ask::READ_ROUTES, room_for(legs, n - 2));
-    }
-    route(call, ask::FOUND_ROUTES, room_for(legs, n - 6))
-}
-
-// The n-th call to a goal.
-fn to_goal(trial: Trial, goal: usize, n: usize) -> Step {
-    let call = to(trial.call, cell_of(trial, goal));
-    if n < 18 {
-        return over_table(from(call, start_of(trial, 0)), n);
-    }
-    let start = (n - 18) / 10;
-    let thorough = start < trial.thorough;
-    let from_start = from(call, start_of(trial, start));
-    plainly(between(from_start, trial.found, thorough, (n - 18) % 10))
-}
-
-// The n-th call on a floor: the floor, rooms, and then the goals.
-fn on_floor(trial: Trial, n: usize) -> Step {
-    if n < trial.firsts {
-        if n == 0 {
-            return plainly(trial.call);
-        }
-        return plainly(of(from(trial.call, cell_of(trial, n - 1)), ask::ROOMS));
-    }
-    let calls = calls_to_goal(trial.starts);
-    let rest = n - trial.firsts;
-    to_goal(trial, rest / calls, rest % calls)
-}
-
-// The n-th call of a trial.
-fn step_of(trial: Trial, n: usize) -> Step {
-    let plan = trial.plan;
-    match plan {
-        EVERY | SOME | FORK | WALLS => on_floor(trial, n),
-        BENT => plainly(bent::bent(trial.call, trial.seed)),
-        FAULTS => plainly(bent::faulty(trial.call, n)),
-        _ => plainly(measures::measured(trial, n)),
+// Tries a call with leg buffers of several lengths.
+fn try_buffers(bench: &mut Bench, call: Call, rooms: &[usize]) {
+    for room in rooms {
+        bench.attempt(Call {
+            room: *room,
+            ..call
+        });
     }
 }
 
-// A trial after a call that said something.
-fn after(trial: Trial, n: usize, kind: usize, said: Said) -> Trial {
-    let mut next = trial;
-    let plan = trial.plan;
-    match plan {
-        BENT => next.seed = random::later(trial.seed, 10),
-        ANY_LENGTHS => next.seed = measures::seed_after(trial.seed, n),
-        _ => {}
+// A route found with more room than it can take, and its distance; then, with room for a little more than its legs
+// take, for as much, for one byte less and for none, the route read from the table so filled, and found, of which only
+// the first is tried if not thoroughly.
+fn try_between(bench: &mut Bench, call: Call, is_thorough: bool) {
+    let find = Call {
+        kind: Kind::FoundRoutes,
+        room: bytes_of(call.entries),
+        ..call
+    };
+    let read = Call {
+        kind: Kind::ReadRoutes,
+        ..call
+    };
+    let found = bench.attempt(find);
+    if let Some(Ok(values)) = found {
+        measures::try_spoken(bench, values[0], values[1]);
     }
-    if kind == ask::FOUND_ROUTES {
-        next.found = said;
+    let bytes = bytes_of(found.map_or(0, try_calls::legs_of));
+    let rooms = [bytes + 3, bytes, bytes.saturating_sub(1), 0];
+    if is_thorough {
+        try_buffers(bench, read, &rooms);
+        try_buffers(bench, find, &rooms);
+    } else {
+        try_buffers(bench, read, &rooms[..1]);
     }
-    next
 }
 
-// Tries the n-th call of a trial: the trial after it.
-fn try_step(
-    trial: Trial,
-    n: usize,
-    map: &[u8; MAP],
-    words: &mut [u32; WORDS],
-    legs: &mut [u8; ROOM],
-) -> Trial {
-    let step = step_of(trial, n);
-    let call = step.call;
-    if call.kind == NOTHING {
-        return trial;
+// Tries the table of a goal, and the routes to it from every cell and from the first off the floor.
+fn try_starts(bench: &mut Bench, call: Call, seed: Random, is_thorough: bool) {
+    try_table(bench, from(call, 0), seed);
+    for start in 0..=call.entries {
+        try_between(bench, from(call, start), is_thorough);
     }
-    alter::alter(words, call.entries, step.way, trial.seed);
-    after(
-        trial,
-        n,
-        call.kind,
-        try_calls::attempt(call, map, words, legs),
-    )
 }
 
-// Runs a trial.
-pub fn run(trial: Trial, map: &[u8; MAP], words: &mut [u32; WORDS], legs: &mut [u8; ROOM]) {
-    let mut now = trial;
-    for n in 0..trial.calls {
-        now = try_step(now, n, map, words, legs);
+// Tries every goal and start of a floor, and the first off it.
+fn try_goals(bench: &mut Bench, call: Call, seed: Random, is_thorough: bool) {
+    for goal in 0..=call.entries {
+        try_starts(bench, to(call, goal), seed, is_thorough);
     }
+}
+
+// Tries every room, goal and start of a floor, and the first off it; of floors of up to 3 by 3 cells thoroughly.
+pub fn try_every(bench: &mut Bench, sides: Sides, seed: Random) {
+    let call = on_floor(sides);
+    bench.attempt(call);
+    for cell in 0..=call.entries {
+        try_room(bench, call, cell);
+    }
+    try_goals(bench, call, seed, sides.width <= 3 && sides.height <= 3);
+}
+
+// Tries some rooms, a goal and some starts of a floor, the first start thoroughly, unless the floor is large.
+pub fn try_some(bench: &mut Bench, sides: Sides, seed: Random, is_large: bool) {
+    let call = on_floor(sides);
+    let [goal, first, second, third] = [3, 8, 13, 18].map(|n| seed.later(n).pick(call.entries));
+    bench.attempt(call);
+    for cell in [goal, first, second] {
+        try_room(bench, call, cell);
+    }
+    let call = to(call, goal);
+    try_table(bench, from(call, first), seed);
+    try_between(bench, from(call, first), !is_large);
+    try_between(bench, from(call, second), false);
+    try_between(bench, from(call, third), false);
+}
+
+// Tries a goal and a start.
+pub fn try_given(bench: &mut Bench, sides: Sides, start: usize, goal: usize) {
+    let call = from(to(on_floor(sides), goal), start);
+    try_table(bench, call, Random(17));
+    try_between(bench, call, true);
 }

@@ -1,5 +1,5 @@
 -- One turn more of the loops over the headings and over the columns of a row.
-use mathlib.Core.Path.{◌≡◌, refl, ap, ap₂, sym, ◌∙◌}
+use mathlib.Core.Path.{◌≡◌, refl, ap, sym, ◌∙◌}
 use mathlib.Core.Bool.{Bool, true, false, true≢false}
 use mathlib.Core.List.{List}
 use Prim.Native.Nat.{ℕ, zero, suc, ◌+◌, min, ◌≤◌, ◌<◌}
@@ -52,11 +52,14 @@ all_judged Right n all = record { within = omega arith; before = all; wrong = λ
 -- the first of the numbers below n that passes a test
 pub found_first : (test : ℕ → Bool) (n : ℕ) (r : Option ℕ)
     → MatchOption r ((k : ℕ) → 0 ≤ k → k < n → test k ≡ false)
-      (λ i. (0 ≤ i) × (i < n) × (test i ≡ true) × ((k : ℕ) → 0 ≤ k → k < i → test k ≡ false))
+    (λ i. (0 ≤ i) × (i < n) × (test i ≡ true) × ((k : ℕ) → 0 ≤ k → k < i → test k ≡ false))
     → FirstWrong (λ k. test k ≡ false) n r
 found_first test n None all = all_judged (λ k. test k ≡ false) n (λ k h. all k (omega arith) h)
-found_first test n (Some i) f = (f.1, record {
-  within = omega arith;
-  before = λ k h. f.3 k (omega arith) h;
-  wrong = λ h e. true≢false (sym f.2 ∙ e);
-})
+found_first test n (Some i) f = (
+  f.1,
+  record {
+    within = omega arith;
+    before = λ k h. f.3 k (omega arith) h;
+    wrong = λ h e. true≢false (sym f.2 ∙ e);
+  },
+)

@@ -6,8 +6,8 @@ use crate::cell_numbers::WALL;
 // A row's numbers: those of the most columns that a floor has, and a border at each end.
 pub const ACROSS: usize = 130;
 
-// The window's numbers.
-pub const NUMBERS: usize = 390;
+// The numbers of three rows.
+pub const NUMBERS: usize = 3 * ACROSS;
 
 // Three rows of numbers. No number is above that of a blocked cell, so that a few of them can be added.
 #[derive(Drop)]

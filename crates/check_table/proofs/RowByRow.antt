@@ -7,16 +7,15 @@ use mathlib.Core.List.{List}
 use Prim.Native.Nat.{ℕ, ◌+◌, ◌-◌, ◌*◌, ◌/◌, ◌%◌, ◌≤◌, ◌<◌}
 use native.Mathlib.Omega.{arith}
 use native.Mathlib.Decide.{dec_le}
-use native.Mathlib.Nat.{mul-le-mul_right}
 use lib.Arith.{digits_lt, digits_div, digits_mod}
 use lib.Dec.{eqb}
 use lib.ListN.{get_or}
-use Rattle.std.specs.Prelude.{Option, Some, None}
+use Rattle.std.specs.Prelude.{Some, None}
 use Rattle.floor.specs.Floor.{Map, Open, cell_of, cells}
 use Rattle.floor.specs.inner.Ready.{SoundFloor, OpenCell}
 use Rattle.steps.specs.Step.{steps_of}
 use Rattle.steps.specs.Way.{Only}
-use Rattle.table_theory.specs.Made.{Right, Judged}
+use Rattle.table_theory.specs.Made.{Right}
 use Rattle.table_theory.specs.inner.First.{FirstWrong}
 use Rattle.table_theory.specs.inner.Written.{Written}
 use Rattle.table_theory.proofs.Writing.{written_as}
@@ -72,11 +71,14 @@ module _ (m : Map) (t : List ℕ) (goal : ℕ) (sound : SoundFloor m) (chosen : 
     -- a cell was found
     pub found : (c : ℕ) → FirstWrong (λ i. differs_at y goal (row * m.width) i ≡ false) m.width (Some c)
         → FirstWrong (Right (steps_of m) (Only goal) t) (cells m) (Some (row * m.width + c))
-    found c f = (omega (arith, digits_lt high f.0), record {
-      within = omega (arith, digits_lt high f.0);
-      before = before c (omega arith) f.1.before;
-      wrong = λ h r. f.1.wrong f.0 ((decides c f.0).1 r);
-    })
+    found c f = (
+      omega (arith, digits_lt high f.0),
+      record {
+        within = omega (arith, digits_lt high f.0);
+        before = before c (omega arith) f.1.before;
+        wrong = λ h r. f.1.wrong f.0 ((decides c f.0).1 r);
+      },
+    )
 
     -- none was found, and the window went down
     pub went_on : (z : List ℕ) → FirstWrong (λ i. differs_at y goal (row * m.width) i ≡ false) m.width None

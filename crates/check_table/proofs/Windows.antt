@@ -6,39 +6,12 @@ use Prim.Native.Nat.{ℕ, suc, ◌+◌, ◌-◌, ◌*◌, ◌/◌, ◌%◌, ◌�
 use native.Mathlib.Omega.{arith}
 use native.Mathlib.Nat.{zero-add}
 use native.Mathlib.Decide.{dec_le, ℕ_discrete}
-use lib.ListN.{get_or, length}
+use lib.ListN.{get_or}
 use Rattle.floor.specs.Floor.{Map}
 use Rattle.check_rows.specs.inner.Level.{wall, number_at}
-use Rattle.check_rows.specs.inner.Window.{LowNumbers, Walled, Showing}
-use borrow.Rule.Slice.PartMut.{put_mid}
-use Rattle.std.proofs.Common.{rules}
-use Rattle.std.proofs.lemmas.List.{places}
+use Rattle.check_rows.specs.inner.Window.{Walled, Showing}
 use Rattle.table_theory.specs.inner.Written.{Written}
 use Rattle.check_rows.proofs.CellNumbers.{west, north, east, number_off}
-
--- a part of a list that is written is written number after number
-pub part_written : (f : ℕ → ℕ) (from k width : ℕ) (x y : List ℕ) → k ≡ width → length y ≡ width → from + width ≤ length x
-    → ((i : ℕ) → i < length y → get_or y i 0 ≡ f i) → Written f from width x (put_mid from k x y)
-part_written f from k width x y e n room each = record {
-  size = search (rules, places);
-  inside = λ i h. search (rules, places);
-  outside = λ z h. by z h;
-}
-  where
-    by : (z : ℕ) → (z < from) ⊎ (from + width ≤ z) → get_or (put_mid from k x y) z 0 ≡ get_or x z 0
-    by z (inl p) = search (rules, places)
-    by z (inr p) = grind (arith, places)
-
--- a window stays low where what is written is
-pub low_written : (f : ℕ → ℕ) (from count : ℕ) (x y : List ℕ) → ((i : ℕ) → f i ≤ wall + 1) → LowNumbers x → Written f from count x y → LowNumbers y
-low_written f from count x y low was w = record { low = λ z. by z (dec_le from z) (dec_le (suc z) (from + count)) }
-  where
-    by : (z : ℕ) → Dec (from ≤ z) → Dec (z < from + count) → get_or y z 0 ≤ wall + 1
-    by z (no p) q = omega (arith, w.outside z (inl (omega arith)), was.low z)
-    by z (yes p) (no q) = omega (arith, w.outside z (inr (omega arith)), was.low z)
-    by z (yes p) (yes q) =
-        let i : from + (z - from) ≡ z = omega arith in
-        omega (arith, ap (λ (n : ℕ). get_or y n 0) i, w.inside (z - from) (omega arith), low (z - from))
 
 module _ (m : Map) (t : List ℕ) where
   -- a place beside the floor

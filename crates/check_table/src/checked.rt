@@ -22,6 +22,7 @@ impl Checked<'_> {
     ghost use Rattle.check_rows.specs.inner.Level.{number_at};
 
     // The number of a cell of the floor.
+    #[tactic(auto, using(check_rows::proofs::CellNumbers::number_read))]
     fn number_at(&self, column: usize, row: usize) -> u32
         requires { (column < self.now.floor.width) × (row < self.now.floor.height) }
         ensures { result ≡ number_at (floor_map self.now.floor) self.now.entries.now (column + 1) (row + 1) }
@@ -42,6 +43,7 @@ impl Checked<'_> {
     }
 
     // The numbers of a row of the floor, or walls for the row below the last.
+    #[tactic(auto, using(check_rows::proofs::CellNumbers::number_below))]
     fn next_row(&self, row: usize, numbers: &mut [u32])
         requires rows { row ≤ self.now.floor.height }
         requires room { length numbers.old ≡ self.now.floor.width }
@@ -55,6 +57,7 @@ impl Checked<'_> {
     }
 
     // Shows such a row in a row of the window.
+    #[tactic(auto, using(std::proofs::lemmas::List::places, check_rows::proofs::CellNumbers::number_low))]
     pub fn show(&self, row: usize, window: &mut Window, at: usize)
         requires rows { row ≤ self.now.floor.height }
         requires at_bound { at < 3 }

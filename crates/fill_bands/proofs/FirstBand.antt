@@ -1,12 +1,7 @@
 -- The first band: the goal's places alone were reached, and take their steps. They are a band of their own, which ends
 -- at 2 * span.
-use mathlib.Core.Path.{◌≡◌, refl, ap, sym, subst, ◌∙◌}
-use mathlib.Core.Logic.{◌⊎◌, inl, inr}
-use mathlib.Core.List.{List}
-use Prim.Native.Nat.{ℕ, ◌+◌, ◌*◌, ◌≤◌, ◌<◌}
-use native.Mathlib.Omega.{arith}
+use Rattle.std.proofs.Common.{◌≡◌, refl, ap, sym, subst, ◌∙◌, ◌⊎◌, inl, inr, List, ℕ, ◌+◌, ◌*◌, ◌≤◌, ◌<◌, arith, get_or, length}
 use native.Mathlib.Decide.{dec_le, ℕ_discrete}
-use lib.ListN.{get_or, length}
 use Rattle.fill_steps.specs.inner.Work.{unreached, span, goal_number, stepped, at, WorkStep}
 use Rattle.fill_steps.specs.inner.Band.{Listed, Underway}
 use Rattle.fill_steps.specs.inner.Taken.{This}
@@ -60,7 +55,7 @@ module _ (x q : List ℕ) (l : Loaded x q) where
         let e = are.are i n in
         record { free = omega arith; after = omega arith; near = omega arith }
 
-    module _ (x' q' : List ℕ) (t : ℕ) (o : GoalsDone goals x q x' q' t) where
+    module _ (x' q' : List ℕ) (t : ℕ) (o : GoalsDone goals 0 x q x' q' t) where
       -- below that band's end only the goal's places are reached
       first : (z : ℕ) → 0 < at x' z → at x' z < 2 * span → at x z ≡ goal_number
       first z p b = by (dec_le (2 * span) (at x z))

@@ -1,13 +1,9 @@
 -- What the passes keep.
-use mathlib.Core.Path.{◌≡◌}
-use mathlib.Core.Logic.{◌⊎◌}
-use mathlib.Core.List.{List}
-use Prim.Native.Nat.{ℕ, ◌+◌, ◌-◌, ◌*◌, ◌≤◌, ◌<◌}
-use native.Mathlib.Omega.{arith}
-use lib.ListN.{get_or}
+use Rattle.std.proofs.Common.{◌≡◌, ◌⊎◌, List, ℕ, ◌+◌, ◌-◌, ◌*◌, ◌≤◌, ◌<◌, arith, get_or}
 use Rattle.fill_steps.specs.inner.Work.{unreached, span, goal_number, at}
 use Rattle.fill_steps.specs.inner.Band.{Band, Support, Listed, Reached, Underway}
 use Rattle.fill_bands.specs.inner.Pass.{Due}
+use Rattle.fill_bands.specs.inner.Solved.{Loaded, Goals, GoalsDone}
 
 -- a larger part of the queue
 pub wider : (q : List ℕ) (low high low' high' z : ℕ) → low' ≤ low → high ≤ high' → Listed q low high z → Listed q low' high' z
@@ -35,3 +31,7 @@ pub record Between (floor : List ℕ) (mid fresh tail limit : ℕ) (x q : List �
   pub start : goal_number < limit
   -- no band was empty
   pub count : limit ≤ span * (mid + 3)
+
+-- while bands are passed, of the floor that was loaded before the goal's places took their steps
+pub record Bands (goals : List ℕ) (mid fresh limit t : ℕ) (x q x' q' : List ℕ) (t' : ℕ) : Type 0 where
+  pub between : (x₀ q₀ : List ℕ) → Loaded x₀ q₀ → Goals x₀ goals → GoalsDone goals 0 x₀ q₀ x q t → Between x₀ mid fresh t' limit x' q'

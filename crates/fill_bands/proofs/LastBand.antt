@@ -1,9 +1,5 @@
 -- When no cell is left, all steps were taken, and the array is solved.
-use mathlib.Core.Path.{◌≡◌}
-use mathlib.Core.Logic.{◌⊎◌, inl, inr}
-use mathlib.Core.List.{List}
-use Prim.Native.Nat.{ℕ, ◌+◌, ◌≤◌, ◌<◌}
-use native.Mathlib.Omega.{arith}
+use Rattle.std.proofs.Common.{◌≡◌, ◌⊎◌, inl, inr, List, ℕ, ◌+◌, ◌≤◌, ◌<◌, arith}
 use native.Mathlib.Decide.{dec_le, ℕ_discrete}
 use Rattle.fill_steps.specs.inner.Work.{unreached, span, goal_number, highest, at}
 use Rattle.fill_steps.specs.inner.Band.{Support}

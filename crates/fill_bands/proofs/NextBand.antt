@@ -9,12 +9,8 @@
 -- 5. What waited in this band was reached before it, by a step out of a cell before the band, and so lies less than one
 --    band past its end. It does not wait in the next one.
 -- 6. No band is empty, so there are no more bands than cells, which bounds every number (`count`).
-use mathlib.Core.Path.{◌≡◌, refl, ap, sym, subst, ◌∙◌}
-use mathlib.Core.List.{List}
-use Prim.Native.Nat.{ℕ, ◌+◌, ◌≤◌, ◌<◌}
-use native.Mathlib.Omega.{arith}
+use Rattle.std.proofs.Common.{◌≡◌, refl, ap, sym, subst, ◌∙◌, List, ℕ, ◌+◌, ◌≤◌, ◌<◌, arith, get_or}
 use native.Mathlib.Decide.{dec_le, ℕ_discrete}
-use lib.ListN.{get_or}
 use Rattle.fill_steps.specs.inner.Work.{unreached, span, stepped, at, WorkStep}
 use Rattle.fill_steps.specs.inner.Band.{Band, Listed, Reached}
 use Rattle.fill_bands.specs.inner.Pass.{Due, PassReady, PassDone, PassLeft}
@@ -36,7 +32,7 @@ module _ (floor : List ℕ) (mid fresh tail limit : ℕ) (x q : List ℕ) (g : B
     waited = g.waited;
   }
 
-  module _ (x' q' : List ℕ) (top t : ℕ) (l : PassLeft mid fresh tail limit x q x' q' top t) where
+  module _ (x' q' : List ℕ) (top t : ℕ) (l : PassLeft mid fresh limit top tail x q x' q' t) where
     d : PassDone (the floor x tail limit) mid top x q x' q' t
     d = l.keeps w refl pass_ready
 

@@ -1,34 +1,21 @@
 -- One pass over the cells of a band: once the fresh ones are parted, the ready ones, with those that waited in the band
 -- before, take their steps one by one, and the others wait.
-use mathlib.Core.Path.{◌≡◌, ap, sym, subst, ◌∙◌}
-use mathlib.Core.List.{List}
-use Prim.Native.Nat.{ℕ, ◌+◌, ◌≤◌, ◌<◌}
-use native.Mathlib.Omega.{arith}
+use Rattle.std.proofs.Common.{◌≡◌, ap, sym, subst, ◌∙◌, List, ℕ, ◌+◌, ◌≤◌, ◌<◌, arith, get_or, length}
 use native.Mathlib.Decide.{dec_le, ℕ_discrete}
-use lib.ListN.{get_or, length}
-use Rattle.fill_steps.specs.inner.Work.{highest, stepped, at, OffBorder, WorkStep, QueueRoom}
+use Rattle.fill_steps.specs.inner.Work.{highest, stepped, at, OffBorder, WorkStep}
 use Rattle.fill_steps.specs.inner.Band.{Band, Listed, Reached, Underway}
 use Rattle.fill_steps.specs.inner.Taken.{Offered, This, TakenLeft}
-use Rattle.fill_bands.specs.inner.Pass.{Due, Places, Parted, StepsReady, StepsBegun, StepsDone, StepsLeft, PassReady, PassBegun, PassDone, PassLeft}
+use Rattle.fill_bands.specs.inner.Pass.{Due, Parted, StepsReady, StepsDone, StepsLeft, PassReady, PassDone, PassLeft}
 use Rattle.fill_steps.proofs.OneOffer.{same_behind}
 use Rattle.fill_steps.proofs.OneStep.{open_floor}
-use Rattle.fill_steps.proofs.ManySteps.{falls_none, falls_more}
+use Rattle.fill_steps.proofs.ManySteps.{falls_more}
 use Rattle.fill_bands.proofs.Parting.{parted_before}
-
--- the cell at c can be stepped out of
-pub record CanStep (x q : List ℕ) (c t : ℕ) : Type 0 where
-  pub inside : OffBorder x c
-  pub low : at x c < highest
-  pub room : QueueRoom x q t
 
 -- an open cell is not on the border
 inside : (w : Band) (x q : List ℕ) (t : ℕ) → Underway w x q t → (z : ℕ) → 0 < at x z → OffBorder x z
 inside w x q t g z o =
     let a = g.border z (open_floor g z o) in
     record { low = a.low; high = omega (arith, a.high, g.cells) }
-
-pub steps_none : (w : Band) (list : List ℕ) (low : ℕ) (x q : List ℕ) (t : ℕ) → Underway w x q t → StepsDone w list low low x q x q t
-steps_none w list low x q t g = record { going = g; falls = falls_none w x q; done = λ k h b m n s. absurd (omega arith) }
 
 -- the next cell of the list, which was one of the band's when that began, still is, and takes its steps
 module _ (w : Band) (list : List ℕ) (low i : ℕ) (x₀ q₀ x q : List ℕ) (t : ℕ) (d : StepsDone w list low i x₀ q₀ x q t)
@@ -45,9 +32,6 @@ module _ (w : Band) (list : List ℕ) (low i : ℕ) (x₀ q₀ x q : List ℕ) (
     after = omega (arith, value, begins.after);
     near = omega (arith, value, begins.near);
   }
-
-  pub can_step : CanStep x q c t
-  can_step = record { inside = inside w x q t d.going c this.free; low = omega (arith, this.near, small); room = d.going.room }
 
   pub one_more : (x' q' : List ℕ) (t' : ℕ) → TakenLeft c t x q x' q' t' → StepsDone w list low (i + 1) x₀ q₀ x' q' t'
   one_more x' q' t' l = record {
@@ -79,26 +63,11 @@ module _ (w : Band) (mid top t : ℕ) (x₀ q₀ : List ℕ) (r : StepsReady w x
   same : get_or q i 0 ≡ get_or q₀ i 0
   same = d.falls.queue i (omega (arith, r.order, r.begins))
 
-  pub in_queue : i < length q
-  in_queue = omega (arith, r.order, r.begins, d.going.order, d.going.room)
-
-  pub step_safe : CanStep x q (get_or q i 0) t'
-  step_safe = subst (λ (z : ℕ). CanStep x q z t') (sym same) (can_step w q₀ mid i x₀ q₀ x q t' d r.small (r.cells i m n))
-
   pub steps_more : (x' q' : List ℕ) (t'' : ℕ) → TakenLeft (get_or q i 0) t' x q x' q' t'' → StepsDone w q₀ mid (i + 1) x₀ q₀ x' q' t''
   steps_more x' q' t'' l =
       one_more w q₀ mid i x₀ q₀ x q t' d r.small (r.cells i m n) x' q' t'' (subst (λ (z : ℕ). TakenLeft z t' x q x' q' t'') same l)
 
 module _ (w : Band) (x q : List ℕ) (mid fresh t : ℕ) (r : PassReady w x q mid fresh t) where
-  pub places : Places x q fresh t
-  places = record {
-    narrow = r.going.room.narrow;
-    order = r.order.1;
-    fits = omega (arith, r.going.room);
-    cells = λ k m n. let a = inside w x q t r.going (get_or q k 0) (r.cells k (omega (arith, r.order)) n).reached.free in
-        record { few = r.going.room.few; cell = omega (arith, a.high) };
-  }
-
   module _ (q' : List ℕ) (top : ℕ) (p : Parted x w.limit mid t q q' top) (size : length q' ≡ length q) where
     -- no cell was reached yet in this band, so that the order of those before it does not matter
     going : Underway w x q' t
@@ -169,13 +138,7 @@ module _ (mid fresh t limit : ℕ) (x q q' : List ℕ) (top : ℕ) (p : Parted x
   parted w e r =
       parted_before x w.limit mid fresh t q q' top (subst (λ (v : ℕ). Parted x v fresh t q q' top) (sym e) p) r.order.0 r.waited
 
-  pub steps_begun : PassBegun x q mid fresh t limit → StepsBegun x q' mid top t
-  steps_begun b = record {
-    band = b.band;
-    ready = steps_ready b.band x q mid fresh t b.ready q' top (parted b.band b.ends b.ready) size;
-  }
-
-  pub pass_left : (x' q'' : List ℕ) (t' : ℕ) → StepsLeft mid top t x q' x' q'' t' → PassLeft mid fresh t limit x q x' q'' top t'
+  pub pass_left : (x' q'' : List ℕ) (t' : ℕ) → StepsLeft mid top t x q' x' q'' t' → PassLeft mid fresh limit top t x q x' q'' t'
   pass_left x' q'' t' l = record {
     order = p.order.1;
     keeps = λ w e r. let u = parted w e r in

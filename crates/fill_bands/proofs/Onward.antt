@@ -1,10 +1,6 @@
 -- When all steps out of cells below a band's end were taken, the next band can begin: its end is one straight step
 -- further.
-use mathlib.Core.Path.{◌≡◌}
-use mathlib.Core.Logic.{◌⊎◌, inl, inr}
-use mathlib.Core.List.{List}
-use Prim.Native.Nat.{ℕ, ◌+◌, ◌-◌, ◌≤◌, ◌<◌}
-use native.Mathlib.Omega.{arith}
+use Rattle.std.proofs.Common.{◌≡◌, ◌⊎◌, inl, inr, List, ℕ, ◌+◌, ◌-◌, ◌≤◌, ◌<◌, arith}
 use Rattle.fill_steps.specs.inner.Work.{span, goal_number, stepped, at, WorkStep}
 use Rattle.fill_steps.specs.inner.Band.{Support, Reached, PastBand, Underway}
 use Rattle.fill_bands.specs.inner.Pass.{Due}

@@ -19,6 +19,18 @@ pub counted : (b : Bool) (v limit r : ℕ) → r ≡ bool_byte b → (IsTrue b �
 counted true v limit r e f = record { most = omega arith; one = λ m. f.0 refl; none = λ m. absurd (omega arith) }
 counted false v limit r e f = record { most = omega arith; one = λ m. absurd (omega arith); none = λ m. grind arith }
 
+-- the first cell stands where the ready ones end, and is one of them if it is below the limit
+pub parted_one : (x : List ℕ) (limit mid : ℕ) (q : List ℕ) (r : ℕ) → Below (at x (get_or q mid 0)) limit r → Parted x limit mid (mid + 1) q q (mid + r)
+parted_one x limit mid q r b = record {
+  order = omega (arith, b.most);
+  front = λ k m n. subst (λ (z : ℕ). at x (get_or q z 0) < limit) (omega (arith, b.most)) (b.one (omega arith));
+  back = λ k m n. subst (λ (z : ℕ). limit ≤ at x (get_or q z 0)) (omega arith) (b.none (omega arith));
+  kept = λ k m n. record { index = k; here = refl; after = m; before = n };
+  old = λ k m n. record { index = k; here = refl; after = m; before = n };
+  head = λ k m. refl;
+  rest = λ k m. refl;
+}
+
 module _ (q q' : List ℕ) (i top : ℕ) (w : Swapped (λ k. get_or q k 0) (λ k. get_or q' k 0) i top) where
   -- a fact of every place, if it holds of the two that are swapped and of the others as they were
   each_swapped :
@@ -89,6 +101,11 @@ module _ (x : List ℕ) (limit mid i : ℕ) (q₀ q q' : List ℕ) (top r : ℕ)
     head = λ k m. w.2 k (omega (arith, s.order)) (omega (arith, s.order)) ∙ s.head k m;
     rest = λ k m. w.2 k (omega arith) (omega (arith, s.order)) ∙ s.rest k (omega arith);
   }
+
+-- the last one was parted
+pub parted_all :
+    (x : List ℕ) (limit mid i t : ℕ) (q q' : List ℕ) (top : ℕ) → Parted x limit mid i q q' top → i ≤ t → t ≤ i → Parted x limit mid t q q' top
+parted_all x limit mid i t q q' top s m n = subst (λ (k : ℕ). Parted x limit mid k q q' top) (omega arith) s
 
 -- the cells right before them are below the limit too, so that all of them together are parted
 pub parted_before :

@@ -2,13 +2,8 @@
 -- reached by a step out of a settled cell, and not by a straight one, which is not long enough. So it was by a diagonal
 -- one, and the cell beside, which is one straight step from both, lies below the band's end. Had it taken its steps, it
 -- would have offered less.
-use mathlib.Core.Path.{◌≡◌, ap}
-use mathlib.Core.Logic.{◌⊎◌, inl, inr}
-use mathlib.Core.List.{List}
-use Prim.Native.Nat.{ℕ, ◌+◌, ◌-◌, ◌%◌, ◌≤◌, ◌<◌}
-use native.Mathlib.Omega.{arith}
+use Rattle.std.proofs.Common.{◌≡◌, ap, ◌⊎◌, inl, inr, List, ℕ, ◌+◌, ◌-◌, ◌%◌, ◌≤◌, ◌<◌, arith, get_or}
 use native.Mathlib.Decide.{dec_le}
-use lib.ListN.{get_or}
 use Rattle.fill_steps.specs.inner.Work.{stride, span, goal_number, highest, at, across, WorkStep}
 use Rattle.fill_steps.specs.inner.Band.{Support}
 use Rattle.fill_steps.proofs.Numbers.{straight}

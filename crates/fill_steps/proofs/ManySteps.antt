@@ -2,7 +2,7 @@
 -- diagonal one.
 use Rattle.std.proofs.Common.{◌≡◌, ℕ, ◌+◌, ◌-◌, ◌*◌, ◌%◌, ◌<◌, ◌≤◌, ◌≢◌, ◌⊎◌, List, sym, refl, ap, ◌∙◌, subst, inl, inr, arith}
 use native.Mathlib.Decide.{ℕ_discrete}
-use Rattle.fill_steps.specs.inner.Work.{span, stepped, at, target, WorkStep, QueueRoom}
+use Rattle.fill_steps.specs.inner.Work.{span, stepped, at, target, WorkStep}
 use Rattle.fill_steps.specs.inner.Band.{Band, Falls}
 use Rattle.fill_steps.specs.inner.Taken.{OfferMade, Masks, SideStep, SideAfter, PastSides, Offered, TakenLeft}
 use Rattle.fill_steps.proofs.Changed.{made_size}
@@ -59,18 +59,10 @@ module _ (w : Band) (Old : ℕ → Type 0) (p t : ℕ) (x₀ q₀ x q : List ℕ
       by j k (no e) = inl (cover j k e)
 
 module _ (p v north t : ℕ) (x₀ q₀ : List ℕ) where
-  pub turns_none : QueueRoom x₀ q₀ t → Turns p v north t x₀ q₀ north 0 x₀ q₀ t
-  turns_none room = record {
-    size = refl;
-    room = room;
-    keeps = λ w o. record { going = o.ready.going; falls = falls_none w x₀ q₀; done = λ j z k s. absurd (omega (arith, k)) };
-    behind = λ w o b. o.mask;
-  }
-
   -- a turn with the diagonal heading h: the straight step after it, and then h itself
-  module _ (side n : ℕ) (x q : List ℕ) (t' : ℕ) (i : Turns p v north t x₀ q₀ side n x q t') (b : n < 4)
+  module _ (side n : ℕ) (x q : List ℕ) (t' : ℕ) (i : Turns p v north side n t x₀ q₀ x q t') (b : n < 4)
       (h : ℕ) (odd : h ≡ 2 * n + 1) (straight : ℕ) (sum : straight ≡ v + span) (other : ℕ) (x' q' : List ℕ) (t'' : ℕ)
-      (s : SideAfter p h straight t' north x q x' q' t'' other) where
+      (s : SideAfter p h straight north other t' x q x' q' t'') where
     ahead : (w : Band) → NorthTaken w x₀ q₀ t p v north → Masks (at w.floor (target p ((h + 1) % 8))) other
     ahead w o = by (ℕ_discrete h 7)
       where
@@ -115,20 +107,18 @@ module _ (p v north t : ℕ) (x₀ q₀ : List ℕ) where
           (diagonal_fits w x' q' t'' a.going p h cand c cand-is side other (omega arith) (omega arith) (inside o.ready).low behind (ahead w o) past)
           (λ j k d. (k.0, k.1, d))
 
-      pub turns_more : Turns p v north t x₀ q₀ other (n + 1) x'' q'' t'''
-      turns_more = record {
+      pub headings_more : Turns p v north other (n + 1) t x₀ q₀ x'' q'' t'''
+      headings_more = record {
         size = made_size _ _ _ _ _ _ _ _ made ∙ s.size ∙ i.size;
-        room = made.room;
         keeps = more_keeps;
         behind = λ w o k. subst (λ (j : ℕ). Masks (at w.floor (target p j)) other) (omega arith) (ahead w o);
       }
 
 -- north was first
-pub turns_all : (p v north t straight : ℕ) (x₀ q₀ x₁ q₁ : List ℕ) (t₁ side n : ℕ) (x q : List ℕ) (t' : ℕ) → at x₀ p ≡ v → straight ≡ v + span
-    → SideStep p 0 straight t x₀ q₀ x₁ q₁ t₁ north → Turns p v north t₁ x₁ q₁ side n x q t' → 4 ≤ n → TakenLeft p t x₀ q₀ x q t'
-turns_all p v north t straight x₀ q₀ x₁ q₁ t₁ side n x q t' e sum first i b = record {
+pub headings_all : (p v north t straight : ℕ) (x₀ q₀ x₁ q₁ : List ℕ) (t₁ side n : ℕ) (x q : List ℕ) (t' : ℕ) → at x₀ p ≡ v → straight ≡ v + span
+    → SideStep p 0 straight north t x₀ q₀ x₁ q₁ t₁ → Turns p v north side n t₁ x₁ q₁ x q t' → 4 ≤ n → TakenLeft p t x₀ q₀ x q t'
+headings_all p v north t straight x₀ q₀ x₁ q₁ t₁ side n x q t' e sum first i b = record {
   size = i.size ∙ made_size _ _ _ _ _ _ _ _ first.offer;
-  room = i.room;
   keeps = λ w g small cell. keeps w (record { going = g; small = small; cell = cell });
 }
   where

@@ -1,3 +1,4 @@
 pub mod Taken
 pub mod Band
 pub mod Work
+pub mod Waves

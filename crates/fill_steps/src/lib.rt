@@ -8,9 +8,11 @@
 // step adds; the lesser number stays.
 #![tactic(auto)]
 
-ghost use Rattle.std.specs.Prelude.{◌≡◌, ◌+◌, ◌-◌, ◌/◌, ◌<◌, ◌≤◌, min, length};
-ghost use Rattle.fill_steps.specs.inner.Work.{unreached, stride, largest, highest, stepped, at, OffBorder, target, QueueRoom};
-ghost use Rattle.fill_steps.specs.inner.Taken.{Lowered, OfferMade, MaskRead, SideStep, SideAfter, PastSides, TakenLeft};
+ghost use Rattle.std.specs.Prelude.{◌≡◌, ◌+◌, ◌<◌, ◌≤◌, ◌↔◌, IsTrue, length};
+ghost use Rattle.fill_steps.specs.inner.Work.{unreached, stride, largest, highest, stepped, target, QueueRoom};
+ghost use Rattle.fill_steps.specs.inner.Taken.{MaskRead, PastSides};
+
+use steps::Heading;
 
 // The number of an open cell that is not reached.
 pub const UNREACHED: u32 = 2147483648;
@@ -36,107 +38,31 @@ const HALF: u32 = 8192;
 // How far apart the rows of the work array are: 128 cells and the border.
 pub const STRIDE: usize = 130;
 
-// 1 for a cell that was not reached and now is, by its number before and after.
-fn newly(before: u32, after: u32) -> usize
+// Whether a cell that was not reached now is, by its number before and after: whether their first digits differ. With
+// two comparisons in the place of the `xor` a fill takes a sixth more instructions.
+fn is_new(before: u32, after: u32) -> bool
     requires { after ≤ before }
-    ensures { (result ≡ before / unreached - after / unreached) × (result ≤ 1) }
+    ensures { IsTrue result ↔ (unreached ≤ before) × (after < unreached) }
 {
-    ((before ^ after) / UNREACHED) as usize
-}
-
-// Lowers the number of a place, if this one is less, and puts the place behind the queue, where it stays if the tail
-// moves on. Gives the number before.
-fn lower(work: &mut [u32], queue: &mut [u32], tail: usize, place: usize, number: u32) -> u32
-    requires place_in_bounds { place < length work.old }
-    requires queue_room { QueueRoom work.old queue.old tail }
-    ensures { Lowered place number tail work.old queue.old work.new queue.new result }
-{
-    let before = work[place];
-    work[place] = number.min(before);
-    queue[tail] = place as u32;
-    before
-}
-
-// Offers a place a number; a cell that was not reached is put behind the queue.
-fn offer(work: &mut [u32], queue: &mut [u32], tail: usize, place: usize, number: u32) -> usize
-    requires place_in_bounds { place < length work.old }
-    requires queue_room { QueueRoom work.old queue.old tail }
-    ensures { OfferMade place number tail work.old queue.old work.new queue.new result }
-{
-    let before = lower(work, queue, tail, place, number);
-    tail + newly(before, number.min(before))
+    UNREACHED <= before ^ after
 }
 
 // Where a heading leads from a place.
-fn place_of(from: usize, heading: usize) -> usize
-    requires stride_bound { (stride + 1 ≤ from) × (from < largest) }
-    requires heading_bound { heading < 8 }
-    ensures { result ≡ target from heading }
+#[tactic(auto, using(steps::proofs::Headings::read_of))]
+fn place_of(from: usize, heading: Heading) -> usize
+    requires { (stride + 1 ≤ from) × (from < largest) }
+    ensures { result ≡ target from heading.number }
 {
-    let change = steps::Heading { number: heading }.change();
+    let change = heading.change();
     from + change.row * STRIDE + change.column - (STRIDE + 1)
 }
 
 // The mask of a cell with this number: UNREACHED if the cell is blocked, else 0. Only 0, less one, wraps to what is not
-// below UNREACHED.
+// below UNREACHED. With bools in the place of masks a fill takes a tenth more instructions.
 fn mask_of(number: u32) -> u32
     ensures { MaskRead number result }
 {
     number.wrapping_sub(1) / UNREACHED * UNREACHED
-}
-
-// Where the queue ends after a straight step, and the mask of the cell that it leads to.
-#[derive(Clone, Copy)]
-struct Side {
-    tail: usize,
-    mask: u32,
-}
-
-// A straight step. Its number always counts, so a cell that was not reached now is. A blocked cell stays blocked and an
-// open one open, so that its mask is read once, for the diagonal steps on both sides of it.
-fn side_step(
-    work: &mut [u32],
-    queue: &mut [u32],
-    tail: usize,
-    from: usize,
-    heading: usize,
-    number: u32,
-) -> Side
-    requires off_border { OffBorder work.old from }
-    requires queue_room { QueueRoom work.old queue.old tail }
-    requires heading_bound { (heading < 8) × (number < unreached) }
-    ensures { SideStep from heading number tail work.old queue.old work.new queue.new result.tail result.mask }
-{
-    let place = place_of(from, heading);
-    let before = lower(work, queue, tail, place, number);
-    Side {
-        tail: tail + (before / UNREACHED) as usize,
-        mask: mask_of(before),
-    }
-}
-
-// The straight step after a diagonal heading. After the last one that is north, which was the first step taken.
-fn side_after(
-    work: &mut [u32],
-    queue: &mut [u32],
-    tail: usize,
-    from: usize,
-    heading: usize,
-    number: u32,
-    north: u32,
-) -> Side
-    requires off_border { OffBorder work.old from }
-    requires queue_room { QueueRoom work.old queue.old tail }
-    requires heading_bound { (heading < 8) × (number < unreached) }
-    ensures { SideAfter from heading number tail north work.old queue.old work.new queue.new result.tail result.mask }
-{
-    if heading == 7 {
-        return Side {
-            tail: tail,
-            mask: north,
-        };
-    }
-    side_step(work, queue, tail, from, heading + 1, number)
 }
 
 // What is offered past two side cells with these masks: too much to count if one is blocked.
@@ -147,6 +73,7 @@ fn past(number: u32, side: u32, other: u32) -> u32
 }
 
 // What a diagonal step makes of a number. Whether it is late is one bit.
+#[tactic(auto, unfolding(crate::specs::inner::Work::late_of, crate::specs::inner::Work::stepped))]
 fn diagonal_of(number: u32) -> u32
     requires { number < highest }
     ensures { result ≡ stepped 1 number }
@@ -158,29 +85,86 @@ fn diagonal_of(number: u32) -> u32
     }
 }
 
-// All steps out of a cell: north, and then each diagonal one after the straight one behind it.
-pub fn cell_steps(work: &mut [u32], queue: &mut [u32], tail: usize, from: usize) -> usize
-    requires off_border { OffBorder work.old from }
-    requires from_bound { at work.old from < highest }
-    requires queue_room { QueueRoom work.old queue.old tail }
-    ensures { TakenLeft from tail work.old queue.old work.new queue.new result }
-{
-    let number = work[from];
-    let straight = number + STEP_STRAIGHT;
-    let diagonal = diagonal_of(number);
-    let north = side_step(work, queue, tail, from, 0, straight);
-    let mut side = north.mask;
-    let mut end = north.tail;
-    for heading in [1, 3, 5, 7] {
-        let other = side_after(work, queue, end, from, heading, straight, north.mask);
-        end = offer(
-            work,
-            queue,
-            other.tail,
-            place_of(from, heading),
-            past(diagonal, side, other.mask),
-        );
-        side = other.mask;
+// The wave that spreads over the work array: the cells' numbers, and the queue of the cells that were reached, which ends
+// at the tail and has room for all that wait.
+#[derive(Drop)]
+pub struct Wave<'a> {
+    pub work: &'a mut [u32],
+    pub queue: &'a mut [u32],
+    pub tail: usize,
+    pub ghost room: { QueueRoom work.now queue.now tail },
+}
+
+impl Wave<'_> {
+    ghost use Rattle.fill_steps.specs.inner.Work.{at, OffBorder};
+    ghost use Rattle.fill_steps.specs.inner.Taken.{Lowered, OfferMade, SideStep, SideAfter, TakenLeft};
+    ghost use Rattle.fill_steps.specs.inner.Waves.{Moved};
+
+    // Lowers the number of a place, if this one is less, and puts the place behind the queue, where it stays if the
+    // tail moves on. Gives the number before.
+    fn lower(&mut self, place: usize, number: u32) -> u32
+        requires { place < length self.old.work.now }
+        ensures { Moved self.old self.new (Lowered place number result) }
+    {
+        let before = self.work[place];
+        self.work[place] = number.min(before);
+        self.queue[self.tail] = place as u32;
+        before
     }
-    end
+
+    // Offers a place a number; a cell that was not reached is put behind the queue.
+    fn offer(&mut self, place: usize, number: u32)
+        requires { place < length self.old.work.now }
+        ensures { Moved self.old self.new (OfferMade place number) }
+    {
+        let before = self.lower(place, number);
+        self.tail += usize::from(is_new(before, number.min(before)));
+    }
+
+    // A straight step. Its number always counts, so a cell that was not reached now is. A blocked cell stays blocked
+    // and an open one open, so that its mask, which is given back, is read once, for the diagonal steps on both sides
+    // of it.
+    fn side_step(&mut self, from: usize, heading: Heading, number: u32) -> u32
+        requires off_border { OffBorder self.old.work.now from }
+        requires counts { number < unreached }
+        ensures { Moved self.old self.new (SideStep from heading.number number result) }
+    {
+        let before = self.lower(place_of(from, heading), number);
+        self.tail += usize::from(UNREACHED <= before);
+        mask_of(before)
+    }
+
+    // The straight step after a diagonal heading. After the last one that is north, which was the first step taken.
+    fn side_after(&mut self, from: usize, heading: Heading, number: u32, north: u32) -> u32
+        requires off_border { OffBorder self.old.work.now from }
+        requires counts { number < unreached }
+        ensures { Moved self.old self.new (SideAfter from heading.number number north result) }
+    {
+        if heading.number == 7 {
+            return north;
+        }
+        let next = Heading {
+            number: heading.number + 1,
+        };
+        self.side_step(from, next, number)
+    }
+
+    // All steps out of a cell: north, and then each diagonal one after the straight one behind it.
+    pub fn cell_steps(&mut self, from: usize)
+        requires off_border { OffBorder self.old.work.now from }
+        requires from_bound { at self.old.work.now from < highest }
+        ensures { Moved self.old self.new (TakenLeft from) }
+    {
+        let number = self.work[from];
+        let straight = number + STEP_STRAIGHT;
+        let diagonal = diagonal_of(number);
+        let north = self.side_step(from, Heading { number: 0 }, straight);
+        let mut side = north;
+        for diagonally in [1, 3, 5, 7] {
+            let heading = Heading { number: diagonally };
+            let other = self.side_after(from, heading, straight, north);
+            self.offer(place_of(from, heading), past(diagonal, side, other));
+            side = other;
+        }
+    }
 }

@@ -1,10 +1,12 @@
 -- A way's line, written in three parts.
-use mathlib.Core.List.{List, [], ◌∷◌, ◌++◌}
+use mathlib.Core.List.{List, [], ◌∷◌, ◌++◌, append_assoc}
 use Prim.Native.Nat.{ℕ}
+use Rattle.print_text.specs.declared.Page.{Page}
 use Rattle.print_text.specs.Text.{newline, decimal, fields, fields_after, line}
-use Rattle.print_text.specs.Put.{Put}
-use Rattle.print_text.proofs.Lines.{then_fields, end}
+use Rattle.print_text.specs.inner.Page.{Wrote}
+use Rattle.print_text.proofs.Fields.{fields_append}
+use Rattle.print_text.proofs.Pages.{wrote_then}
 
-pub way_put : (number : ℕ) (ns ms : List ℕ) {old mid late new : List ℕ} {at next after last : ℕ} → Put old at (fields (number ∷ ns)) mid next
-    → Put mid next (fields_after ms) late after → Put late after (newline ∷ []) new last → Put old at (line (number ∷ (ns ++ ms))) new last
-way_put number ns ms a b c = end {front = decimal number} {ns = ns ++ ms} (then_fields {front = decimal number} {ns = ns} ms (record { so_far = a }) b) c
+pub way_wrote : (number : ℕ) (ns ms : List ℕ) {old mid late new : Page} → Wrote old (fields (number ∷ ns)) mid → Wrote mid (fields_after ms) late
+    → Wrote late (newline ∷ []) new → Wrote old (line (number ∷ (ns ++ ms))) new
+way_wrote number ns ms a b c = rw (fields_append ns ms, ← append_assoc (decimal number) (fields_after ns) (fields_after ms)) (wrote_then (wrote_then a b) c)

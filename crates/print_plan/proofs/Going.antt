@@ -1,14 +1,14 @@
 -- Line after line in the buffer.
-use mathlib.Core.Path.{◌≡◌, refl, ap, subst, sym, ◌∙◌}
+use mathlib.Core.Path.{◌≡◌, refl, ap, sym, ◌∙◌}
 use mathlib.Core.List.{List, [], ◌∷◌, ◌++◌, append-nil, append_assoc}
-use Prim.Native.Nat.{ℕ, zero, suc, ◌+◌, ◌-◌, ◌≤◌, ◌<◌}
+use Prim.Native.Nat.{ℕ, ◌+◌, ◌-◌, ◌≤◌, ◌<◌}
 use native.Mathlib.Omega.{arith}
-use native.Mathlib.Decide.{dec_le}
-use lib.ListN.{length, get_or, take, length-append, length-take}
-use lib.Seq.{take_at, take-append-le}
-use Rattle.io.specs.Counts.{IsPrefixLen}
-use Rattle.print_text.specs.Put.{Put}
-use Rattle.print_text.proofs.Puts.{put_then, none_put, length_put}
+use borrow.Author.Count.{below_more}
+use lib.ListN.{length, get_or, take, length-append, get_or-append}
+use lib.Seq.{take_at, take-append-le, get_or-append_seam}
+use Rattle.print_text.specs.declared.Page.{Page}
+use Rattle.print_text.specs.inner.Page.{HasRoom}
+use Rattle.print_text.proofs.Pages.{wrote_nothing, wrote_then}
 use Rattle.print_plan.specs.declared.Printed.{Printed}
 use Rattle.print_plan.specs.Shown.{joined, Shown}
 use Rattle.print_line.specs.declared.Head.{Head}
@@ -21,85 +21,58 @@ joined_snoc : (ls : List (List ℕ)) (l : List ℕ) → joined (ls ++ (l ∷ [])
 joined_snoc [] l = append-nil l
 joined_snoc (k ∷ ls) l = ap (λ (x : List ℕ). k ++ x) (joined_snoc ls l) ∙ sym (append_assoc k (joined ls) l)
 
--- the first of some and one more, and that one
-get_or_front : (ls : List (List ℕ)) (l : List ℕ) (i : ℕ) → i < length ls → get_or (ls ++ (l ∷ [])) i [] ≡ get_or ls i []
-get_or_front [] l i h = absurd (omega arith)
-get_or_front (k ∷ ls) l zero h = refl
-get_or_front (k ∷ ls) l (suc i) h = get_or_front ls l i (omega arith)
-
-get_or_last : (ls : List (List ℕ)) (l : List ℕ) (i : ℕ) → i ≡ length ls → get_or (ls ++ (l ∷ [])) i [] ≡ l
-get_or_last [] l zero h = refl
-get_or_last [] l (suc i) h = absurd (omega arith)
-get_or_last (k ∷ ls) l zero h = absurd (omega arith)
-get_or_last (k ∷ ls) l (suc i) h = get_or_last ls l i (omega arith)
-
-module _ (input : List ℕ) (from : ℕ) (old : List ℕ) where
-  pub going_start : Progress input from old old 0 from
+module _ (input : List ℕ) (from : ℕ) (start : Page) where
+  pub going_start : Progress input from start start from
   going_start = record {
     shown = [];
     are = λ i h. absurd (omega arith);
-    written = none_put;
+    wrote = wrote_nothing;
     upto = omega arith;
     room = λ i h. absurd (omega arith);
-    inside = omega arith;
-    same = refl;
   }
 
-  module _ (mid new : List ℕ) (at next after : ℕ) (p : Progress input from old mid at next) (free : at + line_room ≤ length mid)
-      (w : Writes (LineAt input next) mid at new after) where
+  module _ (page new : Page) (next : ℕ) (front : start.at ≡ 0) (p : Progress input from start page next) (free : HasRoom line_room page) (w : Writes (LineAt input next) page new) where
     abbrev lines : List (List ℕ)
     lines = p.shown ++ (w.bytes ∷ [])
 
     all : length lines ≡ length p.shown + 1
     all = length-append p.shown (w.bytes ∷ [])
 
+    -- what holds of the lines that were shown, and of the next one, holds of all
+    each : (P : ℕ → Type 0) → ((i : ℕ) → i < length p.shown → P i) → P (length p.shown) → (i : ℕ) → i < length lines → P i
+    each P before last i h = below_more P _ before last i (omega (arith, all))
+
     are_more : (i : ℕ) → i < length lines → LineAt input (from + i) (get_or lines i [])
-    are_more i h =
-        elim (dec_le (suc i) (length p.shown)) [
-          | yes front ↦ subst (LineAt input (from + i)) (sym (get_or_front p.shown w.bytes i front)) (p.are i front)
-          | no back ↦
-              let last : i ≡ length p.shown = omega (arith, all) in
-              let here : next ≡ from + i = omega (arith, p.upto) in
-              subst (LineAt input (from + i)) (sym (get_or_last p.shown w.bytes i last)) (subst (λ (k : ℕ). LineAt input k w.bytes) here w.is)
-        ]
+    are_more =
+        each (λ i. LineAt input (from + i) (get_or lines i [])) (λ i h. rw (get_or-append p.shown (w.bytes ∷ []) [] i h) (p.are i h))
+        (rw (get_or-append_seam p.shown w.bytes [] [], ← p.upto) w.is)
 
-    room_more : (i : ℕ) → i < length lines → length (joined (take i lines)) + line_room ≤ length old
-    room_more i h =
-        elim (dec_le (suc i) (length p.shown)) [
-          | yes front ↦
-              let e : take i lines ≡ take i p.shown = take-append-le i p.shown (w.bytes ∷ []) (omega arith) in
-              omega (arith, p.room i front, ap (λ (ls : List (List ℕ)). length (joined ls)) e)
-          | no back ↦
-              let e : take i lines ≡ p.shown = take_at p.shown (w.bytes ∷ []) i (omega (arith, all)) in
-              omega (arith, p.written.follows, p.same, ap (λ (ls : List (List ℕ)). length (joined ls)) e)
-        ]
+    room_more : (i : ℕ) → i < length lines → length (joined (take i lines)) + line_room ≤ length start.out.now
+    room_more =
+        each (λ i. length (joined (take i lines)) + line_room ≤ length start.out.now)
+        (λ i h. let le : i ≤ length p.shown = omega arith in rw (take-append-le i p.shown (w.bytes ∷ []) le) (p.room i h))
+        (rw (take_at p.shown (w.bytes ∷ []) (length p.shown) refl) (omega arith))
 
-    pub going_more : Progress input from old new after (next + 1)
+    pub going_more : Progress input from start new (next + 1)
     going_more = record {
       shown = lines;
       are = are_more;
-      written = subst (λ (b : List ℕ). Put old 0 b new after) (sym (joined_snoc p.shown w.bytes)) (put_then p.written w.line_put.put);
+      wrote = rw joined_snoc (wrote_then p.wrote w.line_put.wrote);
       upto = omega (arith, p.upto, all);
       room = room_more;
-      inside = omega (arith, w.line_put.fits, p.same);
-      same = ap length w.line_put.put.written ∙ length_put mid at w.bytes (omega (arith, w.line_put.put.follows, w.line_put.fits)) ∙ p.same;
     }
 
   -- where it stops
-  pub going_shown : (new : List ℕ) (at next total : ℕ) → Progress input from old new at next → (h : Head) → Heads input h → total ≡ count_of h → (r : Printed)
-      → r.length ≡ at → r.lines ≡ next - from → r.left ≡ total - next → (0 < r.left → length old < at + line_room) → Shown input from old r new
-  going_shown new at next total p h heads count r e f g full = record {
+  pub going_shown : (page : Page) (next : ℕ) → start.at ≡ 0 → Progress input from start page next → (h : Head) → Heads input h → (r : Printed) → r.length ≡ page.at
+      → r.lines ≡ next - from → r.left ≡ count_of h - next → (0 < r.left → length start.out.now < page.at + line_room) → Shown input from start.out.now r page.out.now
+  going_shown page next front p h heads r e f g full = record {
     head = h;
     heads = heads;
     shown = p.shown;
     are = p.are;
-    written = subst (Put old 0 (joined p.shown) new) (sym e) p.written;
+    written = rw (front, ← e) at p.wrote.put;
     count = omega (arith, p.upto);
     rest = omega (arith, p.upto);
     room = p.room;
     full = λ h. let b = full h in omega arith;
   }
-
--- so many bytes stand at the front of a list that is long enough
-pub counts : (n : ℕ) (l : List ℕ) → n ≤ length l → IsPrefixLen n l
-counts n l h = (h, simp length-take (omega arith))

@@ -18,7 +18,7 @@ use Rattle.print_plan.proofs.OneLine.{one_head, one_line}
 use Rattle.print_plan.proofs.print_lines.Reads as print-lines
 
 -- a line that is printed is one of those there are
-line_below : {input : List ℕ} {i : ℕ} {l : List ℕ} → LineAt input i l → (h : Head) → Heads input h → i < count_of h
+pub line_below : {input : List ℕ} {i : ℕ} {l : List ℕ} → LineAt input i l → (h : Head) → Heads input h → i < count_of h
 line_below {input} {i} a h b = let (k, c, below) = by a in subst (λ (x : Head). i < count_of x) (one_head c b) below
   where
     some : (k : Head) → 0 < count_of k

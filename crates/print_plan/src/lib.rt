@@ -1,11 +1,12 @@
 // What "ways" prints for any input bytes: its lines, as bytes in a lent buffer.
 #![tactic(auto)]
 
-ghost use Rattle.std.specs.Prelude.{◌≡◌, false, ◌+◌, ◌*◌, ◌<◌, ◌≤◌, length};
+ghost use Rattle.std.specs.Prelude.{◌≡◌, false, ◌*◌, ◌<◌, ◌≤◌, length};
 ghost use Rattle.io.specs.Counts.{IsPrefixLen};
 ghost use Rattle.lengths.specs.Answers.{size_outside};
 ghost use Rattle.floor.specs.Floor.{map_of};
 ghost use Rattle.floor.specs.inner.Ready.{SoundFloor};
+ghost use Rattle.print_text.specs.inner.Page.{HasRoom};
 ghost use Rattle.print_line.specs.declared.Head.TheVariants as head;
 ghost use Rattle.print_line.specs.LineRoom.{line_room};
 ghost use Rattle.print_line.specs.inner.Written.{Writes};
@@ -15,6 +16,7 @@ ghost use Rattle.print_plan.specs.inner.Parts.{QueryLine};
 
 use plan::{Plan, Query};
 use print_line::Head;
+use print_text::Page;
 
 mod heads;
 
@@ -29,24 +31,29 @@ pub struct Printed {
     pub left: usize,
 }
 
-// Writes the line of a query: the table has an entry for each cell.
+// What queries are answered in: a table and a leg buffer that are large enough for every floor.
+#[derive(Drop)]
+struct Work {
+    table: [u32; 16384],
+    legs: [u8; 32766],
+}
+
+// Writes the line of a query. The table is lent with an entry for each cell.
 fn put_query(
-    out: &mut [u8],
-    at: usize,
+    page: &mut Page<'_>,
     number: usize,
     plan: Plan,
     map: &[u8],
     query: Query,
-    table: &mut [u32],
-    legs: &mut [u8],
-) -> usize
-    requires line_room_in_bounds { at + line_room ≤ length out.old }
-    requires size_value { size_outside plan.size ≡ false }
+    table: &mut [u32; 16384],
+    legs: &mut [u8; 32766],
+)
+    requires room { HasRoom line_room page.old }
+    requires size_inside { size_outside plan.size ≡ false }
     requires sound_floor { SoundFloor (map_of plan.width plan.height map.now) }
-    requires table_len { length table.old ≡ plan.height * plan.width }
-    requires legs_len { length legs.old ≡ 32766 }
-    ensures { Writes (QueryLine (map_of plan.width plan.height map.now) plan.size number query) out.old at out.new result }
+    ensures { Writes (QueryLine (map_of plan.width plan.height map.now) plan.size number query) page.old page.new }
 {
+    let cells = plan.height * plan.width;
     let answer = route::find_route(
         plan.width,
         plan.height,
@@ -55,103 +62,65 @@ fn put_query(
         query.start_row,
         query.goal_col,
         query.goal_row,
-        table,
+        &mut table[..cells],
         legs,
     );
-    print_line::put_answer(out, at, number, plan.size as u32, answer, legs)
+    print_line::put_answer(page, number, plan.size as u32, answer, legs)
 }
 
 // Writes the line of query `number`, from 1.
-fn put_numbered(
-    input: &[u8],
-    plan: Plan,
-    number: usize,
-    table: &mut [u32],
-    legs: &mut [u8],
-    out: &mut [u8],
-    at: usize,
-) -> usize
-    requires line_room_in_bounds { at + line_room ≤ length out.old }
+fn put_numbered(page: &mut Page<'_>, input: &[u8], plan: Plan, number: usize, work: &mut Work)
+    requires room { HasRoom line_room page.old }
     requires heads { Heads input.now (head.Floor plan) }
-    requires number_nonzero { (0 < number) × (number ≤ plan.queries) }
-    requires table_len { length table.old ≡ 16384 }
-    requires legs_len { length legs.old ≡ 32766 }
-    ensures { Writes (LineAt input.now number) out.old at out.new result }
+    requires number_in_plan { (0 < number) × (number ≤ plan.queries) }
+    ensures { Writes (LineAt input.now number) page.old page.new }
 {
     let query = plan::query_at(input, plan.first_query + 12 * (number - 1));
     let start = plan.map_at;
     let end = plan.map_at + plan.map_len;
-    let cells = plan.height * plan.width;
-    put_query(
-        out,
-        at,
-        number,
-        plan,
-        &input[start..end],
-        query,
-        &mut table[..cells],
-        legs,
-    )
+    let Work { table, legs } = work;
+    put_query(page, number, plan, &input[start..end], query, table, legs)
 }
 
 // Writes line `index`, from 0.
-fn put_line(
-    input: &[u8],
-    head: Head,
-    index: usize,
-    table: &mut [u32],
-    legs: &mut [u8],
-    out: &mut [u8],
-    at: usize,
-) -> usize
-    requires line_room_in_bounds { at + line_room ≤ length out.old }
+fn put_line(page: &mut Page<'_>, input: &[u8], head: Head, index: usize, work: &mut Work)
+    requires room { HasRoom line_room page.old }
     requires heads { Heads input.now head }
-    requires index_bound { index < count_of head }
-    requires table_len { length table.old ≡ 16384 }
-    requires legs_len { length legs.old ≡ 32766 }
-    ensures { Writes (LineAt input.now index) out.old at out.new result }
+    requires index_in_bounds { index < count_of head }
+    ensures { Writes (LineAt input.now index) page.old page.new }
 {
     if index == 0 {
-        return print_line::put_head(out, at, head);
+        return print_line::put_head(page, head);
     }
     match head {
-        Head::Refused(_) => at,
-        Head::Floor(plan) => put_numbered(input, plan, index, table, legs, out, at),
+        Head::Refused(_) => unreachable!(),
+        Head::Floor(plan) => put_numbered(page, input, plan, index, work),
     }
 }
 
-// Writes the lines from number `from` on, with a table and a leg buffer to work in.
-fn print_with(
-    input: &[u8],
-    from: usize,
-    out: &mut [u8],
-    table: &mut [u32],
-    legs: &mut [u8],
-) -> Printed
-    requires table_len { length table.old ≡ 16384 }
-    requires legs_len { length legs.old ≡ 32766 }
-    ensures shown { Shown input.now from out.old result out.new }
-    ensures prefix_len { IsPrefixLen result.length out.new }
+// Writes the lines from number `from` on to an empty page.
+fn print_with(page: &mut Page<'_>, input: &[u8], from: usize, work: &mut Work) -> Printed
+    requires { page.old.at ≡ 0 }
+    ensures shown { Shown input.now from page.old.out.now result page.new.out.now }
+    ensures length { result.length ≡ page.new.at }
     ensures lines_bound { result.lines ≤ 65 }
+    ensures same_buffer { page.new.out.ghost_name ≡ page.old.out.ghost_name }
 {
     let head = heads::head_of(input);
     let total = heads::count_of(head);
-    let mut at = 0;
-    let mut next = from;
-    while next < total {
-        if out.len() - at < LINE_ROOM {
+    for next in from..total {
+        if page.room() < LINE_ROOM {
             return Printed {
-                length: at,
+                length: page.at,
                 lines: next - from,
                 left: total - next,
             };
         }
-        at = put_line(input, head, next, table, legs, out, at);
-        next += 1;
+        put_line(page, input, head, next, work);
     }
     Printed {
-        length: at,
-        lines: next - from,
+        length: page.at,
+        lines: total.saturating_sub(from),
         left: 0,
     }
 }
@@ -163,7 +132,10 @@ pub fn print_lines(input: &[u8], from: usize, out: &mut [u8]) -> Printed
     ensures prefix_len { IsPrefixLen result.length out.new }
     ensures lines_bound { result.lines ≤ 65 }
 {
-    let mut table = [0u32; 16384];
-    let mut legs = [0u8; 32766];
-    print_with(input, from, out, &mut table, &mut legs)
+    let mut work = Work {
+        table: [0; 16384],
+        legs: [0; 32766],
+    };
+    let mut page = Page::new(out);
+    print_with(&mut page, input, from, &mut work)
 }

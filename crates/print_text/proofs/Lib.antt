@@ -1,8 +1,7 @@
 pub mod Digits
 pub mod Only
 pub mod Puts
-pub mod Backwards
+pub mod Pages
 pub mod Fields
-pub mod Lines
 pub mod Unique
 pub mod Sample

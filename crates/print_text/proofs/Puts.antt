@@ -6,8 +6,8 @@ use native.Mathlib.Omega.{arith}
 use native.Mathlib.Nat.{add-zero, add_assoc}
 use native.Mathlib.Numerals.{add-one}
 use native.Mathlib.Decide.{dec_le}
-use lib.ListN.{length, take, drop, set, get_or, length-append, length-take, length-drop, take-append-drop, drop_of_length-le}
-use lib.Seq.{take_all, take_at, take-append-le, take-take, take-suc, drop_at, drop-drop, set_split, append_snoc}
+use lib.ListN.{length, take, drop, set, length-append, length-take, length-drop, take-append-drop, drop_of_length-le}
+use lib.Seq.{take_all, take_at, drop_at, drop-drop, set_split, append_snoc}
 use Rattle.print_text.specs.Put.{put, Put}
 
 pub put_nothing : (old : List ℕ) (at : ℕ) → put old at [] ≡ old
@@ -29,18 +29,6 @@ unfolding put
 put_past old at bytes past = rw (take_all at old past, drop_of_length-le old {i = at + length bytes} (omega arith), append-nil)
 
 module _ (old : List ℕ) (at : ℕ) (bytes : List ℕ) (within : at ≤ length old) where
-  -- what stands before a place within the buffer is kept
-  put_front : (n : ℕ) → n ≤ at → take n (put old at bytes) ≡ take n old
-  unfolding put
-  put_front n h =
-      rw (append_assoc, take-append-le n (take at old) (bytes ++ drop (at + length bytes) old) (simp length-take (omega arith)))
-      (take-take n at old h)
-
-  -- from the place on stand the bytes, then what stood after them
-  put_back : drop at (put old at bytes) ≡ bytes ++ drop (at + length bytes) old
-  unfolding put
-  put_back = rw append_assoc (drop_at (take at old) (bytes ++ drop (at + length bytes) old) at (simp length-take (omega arith)))
-
   -- what stands up to the end of the bytes, and after it
   put_upto : take (at + length bytes) (put old at bytes) ≡ take at old ++ bytes
   unfolding put
@@ -52,13 +40,6 @@ module _ (old : List ℕ) (at : ℕ) (bytes : List ℕ) (within : at ≤ length 
       sym (drop-drop n (at + length bytes) (put old at bytes))
       ∙ ap (drop n) (drop_at (take at old ++ bytes) (drop (at + length bytes) old) (at + length bytes) (simp (length-append, length-take) (omega arith)))
       ∙ drop-drop n (at + length bytes) old
-
--- the later bytes may be written first
-pub put_before : (old : List ℕ) (at : ℕ) (a b : List ℕ) → at + length a ≤ length old → put (put old (at + length a) b) at a ≡ put old at (a ++ b)
-unfolding put
-put_before old at a b room =
-    rw (put_front old (at + length a) b room at (omega arith), put_back old (at + length a) b room, length-append, add_assoc)
-    (simp append_assoc)
 
 put_within : (old : List ℕ) (at : ℕ) (a b : List ℕ) → at ≤ length old → put (put old at a) (at + length a) b ≡ put old at (a ++ b)
 unfolding put
@@ -83,7 +64,7 @@ put_then {old} {mid} {new} {a} {b} {at} {next} {after} first second =
       follows = omega (arith, first.follows, second.follows, length-append a b);
     }
 
--- where bytes are written for one number after the other, the next number's follow those of the numbers before it
-pub one_more : (of-all : List ℕ → List ℕ) (of_one : ℕ → List ℕ) → ((l : List ℕ) (n : ℕ) → of-all (l ++ (n ∷ [])) ≡ of-all l ++ of_one n) → (numbers : List ℕ) (i : ℕ) → i < length numbers
-    → {old mid new : List ℕ} {at next after : ℕ} → Put old at (of-all (take i numbers)) mid next → Put mid next (of_one (get_or numbers i 0)) new after → Put old at (of-all (take (i + 1) numbers)) new after
-one_more of-all of_one joins numbers i below first second = rw (add-one, take-suc numbers i 0 below, joins) (put_then first second)
+-- a buffer that was written from its front begins with what was written
+pub written_front : {old bytes new : List ℕ} {next : ℕ} → Put old 0 bytes new next → take next new ≡ bytes
+unfolding put
+written_front {old} {bytes} p = rw (p.written, p.follows) (take_at bytes (drop (0 + length bytes) old) (0 + length bytes) (omega arith))

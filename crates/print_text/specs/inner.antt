@@ -1,1 +1,2 @@
 pub mod Space
+pub mod Page

@@ -1,126 +1,146 @@
 // What "ways" prints, as bytes in a lent buffer: numbers in decimal, words, and fields parted by one blank.
-//
-// Each function writes at a place, leaves every other byte as it was, and answers the place after what it wrote. Its caller sees to the room.
 #![tactic(auto)]
 
-ghost use Rattle.std.specs.Prelude.{◌≡◌, [], ◌∷◌, ◌+◌, ◌*◌, ◌<◌, ◌≤◌, length, take};
-ghost use Rattle.print_text.specs.Text.{newline, decimal, field, fields_after};
-ghost use Rattle.print_text.specs.Put.{Put};
-ghost use Rattle.print_text.specs.inner.Space.{number_room, field_room, byte_room};
+ghost use Rattle.std.specs.Prelude.{◌≤◌, length};
 
-const BLANK: u8 = 32;
+const BLANK: u8 = b' ';
 
-const NEWLINE: u8 = 10;
+const NEWLINE: u8 = b'\n';
 
-const ZERO: u8 = 48;
+const ZERO: u8 = b'0';
 
-// Writes a number in decimal.
-pub fn put_number(out: &mut [u8], at: usize, n: usize) -> usize
-    requires { at + number_room ≤ length out.old }
-    ensures put { Put out.old at (decimal n) out.new result }
-    ensures upper_bound { result ≤ at + number_room }
-{
-    write_number(out, at, n)
+// The least number of two digits.
+const TWO_DIGITS: usize = 10;
+
+// A lent buffer, and the place where the next byte is written.
+#[derive(Drop)]
+pub struct Page<'a> {
+    out: &'a mut [u8],
+    pub at: usize,
+    pub ghost inside: { at ≤ length out.now },
 }
 
-// Writes a field that is not the first of its line: a blank, then a number.
-pub fn put_field(out: &mut [u8], at: usize, n: usize) -> usize
-    requires { at + field_room ≤ length out.old }
-    ensures put { Put out.old at (field n) out.new result }
-    ensures upper_bound { result ≤ at + field_room }
-{
-    write_field(out, at, n)
-}
+// Each method that writes begins at the place, and leaves every byte before it and after what it wrote as it was. Its
+// caller sees to the room.
+impl<'a> Page<'a> {
+    ghost use Rattle.std.specs.Prelude.{◌≡◌, [], ◌∷◌, ◌+◌, ◌*◌, ◌≤◌, length};
+    ghost use Rattle.print_text.specs.Text.{newline, decimal, field, fields_after, fields, line};
+    ghost use Rattle.print_text.specs.inner.Page.{HasRoom, Wrote, Begins};
+    ghost use Rattle.print_text.specs.inner.Space.{number_room, field_room, byte_room, numbers_room};
 
-// Writes the first `count` of the numbers, each as a field that is not the first of its line.
-pub fn put_fields(out: &mut [u8], at: usize, numbers: &[u8], count: usize) -> usize
-    requires count_in_bounds { count ≤ length numbers.now }
-    requires count_in_bounds_2 { at + byte_room * count ≤ length out.old }
-    ensures put { Put out.old at (fields_after (take count numbers.now)) out.new result }
-    ensures upper_bound { result ≤ at + byte_room * count }
-{
-    let mut next = at;
-    let mut done = 0;
-    while done < count {
-        next = write_field(out, next, number_of(numbers[done]));
-        done += 1;
+    // A page that is written from its buffer's front.
+    pub fn new(out: &'a mut [u8]) -> Page<'a>
+        ensures { Begins out.entry result }
+    {
+        Page { out, at: 0 }
     }
-    next
-}
 
-// Writes a word.
-pub fn put_word(out: &mut [u8], at: usize, word: &[u8]) -> usize
-    requires { at + length word.now ≤ length out.old }
-    ensures { Put out.old at word.now out.new result }
-{
-    let mut next = at;
-    let mut i = 0;
-    while i < word.len() {
-        next = write_byte(out, next, word[i]);
-        i += 1;
+    // How many bytes there is room for.
+    pub fn room(&self) -> usize
+        ensures { self.now.at + result ≡ length self.now.out.now }
+    {
+        self.out.len() - self.at
     }
-    next
-}
 
-// Writes a newline, which ends a line.
-pub fn put_newline(out: &mut [u8], at: usize) -> usize
-    requires { at < length out.old }
-    ensures { Put out.old at (newline ∷ []) out.new result }
-{
-    write_byte(out, at, NEWLINE)
-}
-
-// Writes one byte.
-fn write_byte(out: &mut [u8], at: usize, byte: u8) -> usize
-    requires { at < length out.old }
-    ensures { Put out.old at (byte ∷ []) out.new result }
-{
-    out[at] = byte;
-    at + 1
-}
-
-// Writes a blank, then a number, where there is just the room for them.
-fn write_field(out: &mut [u8], at: usize, n: usize) -> usize
-    requires { at + length (field n) ≤ length out.old }
-    ensures { Put out.old at (field n) out.new result }
-{
-    let next = write_byte(out, at, BLANK);
-    write_number(out, next, n)
-}
-
-// Writes a number in decimal, from its last digit to its first, where there is just the room for it.
-fn write_number(out: &mut [u8], at: usize, n: usize) -> usize
-    requires { at + length (decimal n) ≤ length out.old }
-    ensures { Put out.old at (decimal n) out.new result }
-{
-    let end = at + digit_count(n);
-    let mut place = end - 1;
-    let mut left = n;
-    while left >= 10 {
-        out[place] = ZERO + (left % 10) as u8;
-        left /= 10;
-        place -= 1;
+    // Writes a number in decimal.
+    #[tactic(auto, using(crate::proofs::Fields::number_fits))]
+    pub fn put_number(&mut self, n: usize)
+        requires { HasRoom number_room self.old }
+        ensures wrote { Wrote self.old (decimal n) self.new }
+        ensures at_most { self.new.at ≤ self.old.at + number_room }
+    {
+        self.put_digits(n)
     }
-    out[place] = ZERO + left as u8;
-    end
-}
 
-// How many digits a number has in decimal.
-fn digit_count(n: usize) -> usize
-    ensures { result ≡ length (decimal n) }
-{
-    let mut count = 1;
-    let mut rest = n;
-    while rest >= 10 {
-        rest /= 10;
-        count += 1;
+    // Writes a field that is not the first of its line: a blank, then a number.
+    #[tactic(auto, using(crate::proofs::Fields::number_fits))]
+    pub fn put_field(&mut self, n: usize)
+        requires { HasRoom field_room self.old }
+        ensures wrote { Wrote self.old (field n) self.new }
+        ensures at_most { self.new.at ≤ self.old.at + field_room }
+    {
+        self.put_after_blank(n);
     }
-    count
-}
 
-// A byte as a number.
-fn number_of(byte: u8) -> usize
-    ensures { (result ≡ byte) × (result < 256) }
-{
-    byte as usize
+    // Writes the numbers of the bytes, each as a field that is not the first of its line.
+    pub fn put_fields(&mut self, numbers: &[u8])
+        requires { HasRoom (byte_room * length numbers.now) self.old }
+        ensures wrote { Wrote self.old (fields_after numbers.now) self.new }
+        ensures at_most { self.new.at ≤ self.old.at + byte_room * length numbers.now }
+    {
+        for number in numbers {
+            self.put_after_blank(usize::from(*number));
+        }
+    }
+
+    // Writes the numbers, parted by one blank.
+    pub fn put_numbers(&mut self, numbers: &[usize])
+        requires { HasRoom (numbers_room (length numbers.now)) self.old }
+        ensures wrote { Wrote self.old (fields numbers.now) self.new }
+        ensures at_most { self.new.at ≤ self.old.at + numbers_room (length numbers.now) }
+    {
+        if let [first, rest @ ..] = numbers {
+            self.put_number(*first);
+            for number in rest {
+                self.put_field(*number);
+            }
+        }
+    }
+
+    // Writes a line of numbers.
+    pub fn put_line(&mut self, numbers: &[usize])
+        requires { HasRoom (numbers_room (length numbers.now) + 1) self.old }
+        ensures wrote { Wrote self.old (line numbers.now) self.new }
+        ensures at_most { self.new.at ≤ self.old.at + numbers_room (length numbers.now) + 1 }
+    {
+        self.put_numbers(numbers);
+        self.end_line();
+    }
+
+    // Writes a word.
+    pub fn put_word(&mut self, word: &[u8])
+        requires { HasRoom (length word.now) self.old }
+        ensures { Wrote self.old word.now self.new }
+    {
+        let end = self.at + word.len();
+        self.out[self.at..end].copy_from_slice(word);
+        self.at = end;
+    }
+
+    // Writes a newline, which ends a line.
+    pub fn end_line(&mut self)
+        requires { HasRoom 1 self.old }
+        ensures { Wrote self.old (newline ∷ []) self.new }
+    {
+        self.put_byte(NEWLINE);
+    }
+
+    // Writes one byte.
+    fn put_byte(&mut self, byte: u8)
+        requires { HasRoom 1 self.old }
+        ensures { Wrote self.old (byte ∷ []) self.new }
+    {
+        self.out[self.at] = byte;
+        self.at += 1;
+    }
+
+    // Writes a blank, then a number, where there is just the room for them.
+    fn put_after_blank(&mut self, n: usize)
+        requires { HasRoom (length (field n)) self.old }
+        ensures { Wrote self.old (field n) self.new }
+    {
+        self.put_byte(BLANK);
+        self.put_digits(n);
+    }
+
+    // Writes a number in decimal, its tens and then its last digit, where there is just the room for it.
+    fn put_digits(&mut self, n: usize)
+        requires { HasRoom (length (decimal n)) self.old }
+        ensures { Wrote self.old (decimal n) self.new }
+    {
+        if n >= TWO_DIGITS {
+            self.put_digits(n / 10);
+        }
+        self.put_byte(ZERO + (n % 10) as u8);
+    }
 }

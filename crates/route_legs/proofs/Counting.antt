@@ -25,9 +25,6 @@ pub record CountingLegs (m : Map) (t : List ℕ) (o : Ranking) (w v : Walker) (k
   pub ahead : (ls : List Leg) (total : Length) → Ahead m t o w ls total → (ks : List Leg) × Ahead m t o v ks total × (length ls ≡ k + length ks)
 
 module _ (m : Map) (t : List ℕ) (o : Ranking) where
-  pub counting_start : (w : Walker) → Stands m t o w → CountingLegs m t o w w 0
-  counting_start w s = record { stands = s; falls = omega arith; ahead = λ ls total a. (ls, a, omega arith) }
-
   pub counting_more : (w v : Walker) (k : ℕ) (r : WalkedLeg) → CountingLegs m t o w v k → Leads m t o v r → CountingLegs m t o w r.after (k + 1)
   counting_more w v k r c d = record {
     stands = d.going.stands;

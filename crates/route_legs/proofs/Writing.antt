@@ -54,13 +54,6 @@ two_off s i h =
     drop-cons s i 0 a ∙ ap (λ (r : List ℕ). get_or s i 0 ∷ r) (drop-cons s (suc i) 0 b) ∙ rw (e, add-one i)
 
 module _ (m : Map) (t : List ℕ) (o : Ranking) where
-  pub writing_start : (w : Walker) (old : List ℕ) → Stands m t o w → Writing m t o w w 0 old old
-  writing_start w old s = record {
-    stands = s;
-    size = refl;
-    part = λ ls total a. record { written = []; left = ls; whole = refl; ahead = a; place = refl; content = refl };
-  }
-
   room_left : (v : Walker) (i : ℕ) (old new : List ℕ) (r : WalkedLeg) → Leads m t o v r → (ls : List Leg) (total : Length)
       → 2 * length ls ≤ length old → PartWritten m t o v i old new ls total → i + 2 ≤ length old
   room_left v i old new r d ls total room p =

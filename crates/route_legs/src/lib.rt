@@ -53,12 +53,14 @@ fn put_leg(legs: &mut [u8], at: usize, heading: Heading, count: usize)
 }
 
 // The legs ahead, written from the front; bytes after the last leg keep their values. They are counted, and their
-// length is summed, as in `count_legs`.
+// length is summed, as in `count_legs`. One loop for both was no plainer: an iterator of the legs is a struct more, and
+// each contract would say that its walk stays the same.
 fn write_legs(walk: &Walk, start: Walker, legs: &mut [u8]) -> Way
     requires stands { Stands (floor_map walk.now.floor) walk.now.table.now numbered start }
     requires leg_room { LegRoom (floor_map walk.now.floor) walk.now.table.now numbered start legs.old }
     ensures counted { Counted (floor_map walk.now.floor) walk.now.table.now numbered start result }
-    ensures legs_written { LegsWritten (floor_map walk.now.floor) walk.now.table.now numbered start legs.old legs.new }
+    ensures legs_written { LegsWritten (floor_map walk.now.floor) walk.now.table.now numbered start
+        legs.old legs.new }
 {
     let mut walker = start;
     let mut count: usize = 0;
@@ -90,15 +92,16 @@ fn legs_wanted(walk: &Walk, start: Walker, bytes: usize) -> usize
     if 2 * steps_of(walk.table[start.cell]) <= bytes {
         return 0;
     }
-    let way = count_legs(walk, start);
-    way.legs
+    count_legs(walk, start).legs
 }
 
 // The first route from start to the goal, read from a table that keeps its promise. The goal is the table's: only the
 // promise names it. Refusals: NoWay, LegsShort.
 pub fn read_route(ends: &Ends, table: &[u32], legs: &mut [u8]) -> Result<Way, Refusal>
-    requires { Filled (steps_of (floor_map ends.now.goal.floor)) (Only ends.now.goal.cell) (cells (floor_map ends.now.goal.floor)) table.now }
-    ensures { ReadsRoute (steps_of (floor_map ends.now.goal.floor)) (Only ends.now.goal.cell) (λ h. h) ends.now.start legs.old result legs.new }
+    requires { Filled (steps_of (floor_map ends.now.goal.floor)) (Only ends.now.goal.cell)
+        (cells (floor_map ends.now.goal.floor)) table.now }
+    ensures { ReadsRoute (steps_of (floor_map ends.now.goal.floor)) (Only ends.now.goal.cell) (λ h. h)
+        ends.now.start legs.old result legs.new }
 {
     if table[ends.start] == MARK {
         return Err(Refusal::NoWay);

@@ -1,8 +1,7 @@
 -- A step as the code reads it: where a heading leads is one number off, and for a straight step that the numbers fit
 -- nothing but the ends of the row is left to test.
 use Rattle.std.specs.Option.{is_some}
-use Rattle.std.proofs.Common.{Option, Some, None, ◌≡◌, ℕ, zero, suc, ◌+◌, ◌-◌, ◌*◌, ◌/◌, ◌%◌, ◌<◌, ◌≤◌, Bool, true, false, eqb, leb, List, length, get_or, sym, refl, ap, ◌∙◌, subst, add-mul, div-add-mod', arith, eqb-true, leb-false, leb-true}
-use mathlib.Core.Bool.{false≢true}
+use Rattle.std.proofs.Common.{Option, Some, None, ◌≡◌, ℕ, zero, suc, ◌+◌, ◌-◌, ◌*◌, ◌/◌, ◌%◌, ◌<◌, ◌≤◌, Bool, true, false, eqb, List, get_or, sym, refl, ap, ◌∙◌, subst, add-mul, mul-le-mul, div-add-mod', arith}
 use borrow.Author.Tests.{eqb-false}
 use Rattle.floor.specs.Floor.{Map, Open, cells}
 use Rattle.floor.specs.inner.Ready.{SoundFloor}
@@ -10,11 +9,19 @@ use Rattle.steps.specs.Heading.{change_of}
 use Rattle.steps.specs.inner.Leading.{lead_of}
 use Rattle.steps.specs.Step.{steps_of}
 use Rattle.steps.proofs.Grid.{cell, cell_column, cell_row}
-use Rattle.steps.proofs.Headings.{Slope, level, upright, slanted, slope}
+use Rattle.steps.proofs.Headings.{changes_of, Slope, level, upright, slanted, slope}
+use Rattle.steps.proofs.OnMap.{few_cells}
 use Rattle.steps.proofs.Leads.{floor, open_column, to_step, from_step}
 use Rattle.route_walker.specs.inner.Walkers.{Differ, InWidth, Readable, cost, fits, past}
 use Rattle.route_walker.proofs.OnFloor.{lands}
 use Rattle.route_walker.proofs.Searching.{cost_straight, fits_nowhere, fits_yes, yes_fits}
+
+-- a heading leads at most two rows further
+pub rows_small : (h width : ℕ) → h < 8 → width ≤ 128 → (change_of h).row * width ≤ 256
+rows_small h width b wide = mul-le-mul (changes_of h b).flat wide
+
+-- what bounds where a heading leads
+pub ruleset near = (changes_of, rows_small, few_cells)
 
 module _ (m : Map) (h x : ℕ) (b : h < 8) where
   -- where a heading leads, as the code counts it
@@ -120,3 +127,6 @@ module _ (m : Map) (h x : ℕ) (b : h < 8) where
           let (z, j, f, g) = d.found fit in
           let same : z ≡ y = omega (arith, lead_past y (sym e)) in
           sym (yes_fits (lead_of m) t x h y (sym e) (g ∙ ap (λ (k : ℕ). get_or t k 0 + cost h) same))
+
+-- what tells whether a step fits
+pub ruleset fitting = (fits_off, fits_diagonal, fits_straight)

@@ -1,6 +1,6 @@
 -- The next heading: the first, by an order of the eight, whose step is permitted and fits the table's numbers. Nothing
 -- is asked of the table. The numbers fall with each such step, so the headings come to an end.
-use Rattle.std.proofs.Common.{Some, None, Option, ◌≡◌, ℕ, zero, suc, ◌+◌, ◌-◌, ◌*◌, ◌%◌, ◌<◌, ◌≤◌, Bool, true, false, eqb, List, [], ◌∷◌, get_or, sym, refl, ap, ◌∙◌, subst, le_refl, add-one, arith, eq-eqb, eqb-true}
+use Rattle.std.proofs.Common.{Some, None, Option, ◌≡◌, ℕ, zero, suc, ◌+◌, ◌-◌, ◌%◌, ◌<◌, ◌≤◌, Bool, true, false, eqb, List, [], ◌∷◌, get_or, sym, refl, ap, ◌∙◌, subst, le_refl, add-one, arith, eq-eqb, eqb-true}
 use native.Mathlib.Decide.{ℕ_discrete}
 use Rattle.answers.specs.Bools.{pick}
 use Rattle.lengths.specs.declared.Length.{Length}
@@ -14,9 +14,6 @@ use Rattle.route_walker.specs.inner.Walkers.{Run, done, more, cost, fits, fits_l
 pub cost_straight : (h : ℕ) → h % 2 ≡ 0 → 65536 ≡ cost h
 cost_straight h e = rw e
 
-pub cost_diagonal : (h : ℕ) → (h % 2 ≡ 0 → ⊥) → 1 ≡ cost h
-cost_diagonal h n = let e : h % 2 ≡ 1 = omega arith in rw e
-
 pub cost_pos : (h : ℕ) → 0 < cost h
 cost_pos h = omega (arith, one_step (h % 2))
 
@@ -27,33 +24,12 @@ module _ (test : ℕ → Bool) (at : ℕ → ℕ) (i n : ℕ) (inv : seek test a
       let e : 8 - i ≡ suc (8 - (i + 1)) = omega arith in
       rw (e, add-one i)
 
-  pub seek_none : 8 ≤ i → 8 ≡ n
-  seek_none h = let e : 8 - i ≡ 0 = omega arith in rw e at inv
-
   module _ (h : i < 8) (r : Bool) (f : r ≡ test (at i)) where
     pub seek_found : r ≡ true → at i ≡ n
     seek_found g = let e : test (at i) ≡ true = sym f ∙ g in sym (seek_first h ∙ rw e) ∙ inv
 
     pub seek_goes : r ≡ false → seek test at (8 - (i + 1)) (i + 1) ≡ n
     seek_goes g = let e : test (at i) ≡ false = sym f ∙ g in sym (seek_first h ∙ rw e) ∙ inv
-
--- two headings at once, the first of them even
-module _ (test : ℕ → Bool) (at : ℕ → ℕ) (k n : ℕ) (inv : seek test at (8 - 2 * k) (2 * k) ≡ n) (h : k < 4)
-    (r : Bool) (f : r ≡ test (at (2 * k))) where
-  pub even_found : r ≡ true → at (2 * k) ≡ n
-  even_found = seek_found test at (2 * k) n inv (omega arith) r f
-
-  module _ (off : r ≡ false) (q : Bool) (g : q ≡ test (at (2 * k + 1))) where
-    once : seek test at (8 - (2 * k + 1)) (2 * k + 1) ≡ n
-    once = seek_goes test at (2 * k) n inv (omega arith) r f off
-
-    pub odd_found : q ≡ true → at (2 * k + 1) ≡ n
-    odd_found = seek_found test at (2 * k + 1) n once (omega arith) q g
-
-    pub pair_goes : q ≡ false → seek test at (8 - 2 * (k + 1)) (2 * (k + 1)) ≡ n
-    pair_goes e =
-        let s : 2 * k + 1 + 1 ≡ 2 * (k + 1) = omega arith in
-        subst (λ (j : ℕ). seek test at (8 - j) j ≡ n) s (seek_goes test at (2 * k + 1) n once (omega arith) q g e)
 
 -- what a search finds
 data Sought (test : ℕ → Bool) (at : ℕ → ℕ) (k i r : ℕ) : Type 0 where
@@ -145,3 +121,6 @@ module _ (lead : ℕ → ℕ → Option ℕ) (table : List ℕ) where
 
     pub run_exists : (x : ℕ) → (hs : List ℕ) × (l : Length) × Run lead table o.at x hs l
     run_exists x = ends (get_or table x 0) x (le_refl (get_or table x 0))
+
+-- what a search does at a heading
+pub ruleset seeking = (seek_found, seek_goes)

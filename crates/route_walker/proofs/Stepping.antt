@@ -30,13 +30,6 @@ module _ (same : Heading → Heading → Bool) (numbers : (j k : Heading) → sa
   next_other None e f = omega (arith, h.known)
   next_other (Some k) e f = eqb-false _ _ (sym (numbers k h) ∙ e) f
 
--- a length with one step more
-pub one_straight : (l : Length) (h : ℕ) → h % 2 ≡ 0 → record { straight = l.straight + 1; diagonal = l.diagonal } ≡ l ⊕ weight h
-one_straight l h e = rw e (length_ext refl (omega arith))
-
-pub one_diagonal : (l : Length) (h : ℕ) → (h % 2 ≡ 0 → ⊥) → record { straight = l.straight; diagonal = l.diagonal + 1 } ≡ l ⊕ weight h
-one_diagonal l h n = let e : h % 2 ≡ 1 = omega arith in rw e (length_ext (omega arith) refl)
-
 module _ (m : Map) (t : List ℕ) (o : Ranking) where
   -- the next heading is one of the eight, or 8
   pub next_small : (w : Walker) → Stands m t o w → taken w.next ≤ 8
@@ -46,60 +39,52 @@ module _ (m : Map) (t : List ℕ) (o : Ranking) where
       by (stop e all) = omega (arith, s.ready)
       by (goes p f low) = omega (arith, s.ready)
 
-  -- the walker's next heading fits, unless it is 8
-  fits_next : (w : Walker) → Stands m t o w → taken w.next < 8 → (y : ℕ) × (lead_of m (taken w.next) w.cell ≡ Some y) × (get_or t w.cell 0 ≡ get_or t y 0 + cost (taken w.next))
-  fits_next w s b = by (next_is (lead_of m) t o w.cell)
-    where
-      by : Next (lead_of m) t o w.cell → (y : ℕ) × (lead_of m (taken w.next) w.cell ≡ Some y) × (get_or t w.cell 0 ≡ get_or t y 0 + cost (taken w.next))
-      by (stop e all) = absurd (omega (arith, s.ready))
-      by (goes p f low) = fits_yes (lead_of m) t w.cell (taken w.next) (ap (fits (lead_of m) t w.cell) s.ready ∙ f)
+  -- a walker that takes the heading h next
+  module _ (w : Walker) (s : Stands m t o w) (h : Heading) (e : w.next ≡ Some h) where
+    number : taken w.next ≡ h.number
+    number = ap taken e
 
-  -- so its length has room for a step
-  pub room_to_step : (w : Walker) → Stands m t o w → taken w.next < 8 → steps w.length + 1 < 4294967296
-  room_to_step w s b = let (y, p, e) = fits_next w s b in omega (arith, s.few, cost_pos (taken w.next))
+    -- its step fits
+    fits_next : (y : ℕ) × (lead_of m h.number w.cell ≡ Some y) × (get_or t w.cell 0 ≡ get_or t y 0 + cost h.number)
+    fits_next = by (next_is (lead_of m) t o w.cell)
+      where
+        by : Next (lead_of m) t o w.cell → (y : ℕ) × (lead_of m h.number w.cell ≡ Some y) × (get_or t w.cell 0 ≡ get_or t y 0 + cost h.number)
+        by (stop p all) = absurd (omega (arith, s.ready, number, h.known))
+        by (goes p f low) = fits_yes (lead_of m) t w.cell h.number (ap (fits (lead_of m) t w.cell) (sym number ∙ s.ready) ∙ f)
 
-  -- one step, as the code takes it
-  pub step_still : (w : Walker) → 8 ≤ taken w.next → Stepped m t o w w
-  step_still w h = record { still = λ e. refl; moved = λ b. absurd (omega arith) }
+    -- so its length has room for a step
+    pub room_to_step : steps w.length + 1 < 4294967296
+    room_to_step = let (y, p, d) = fits_next in omega (arith, s.few, cost_pos h.number)
 
-  module _ (w : Walker) (s : Stands m t o w) (b : taken w.next < 8) where
-    -- where it leads, as the code counts it
-    pub step_led : (p : ℕ) → p ≡ past m.width w.cell (taken w.next) → (m.width + 1 ≤ p) × (lead_of m (taken w.next) w.cell ≡ Some (p - (m.width + 1)))
-    step_led p e =
-        let (y, q, d) = fits_next w s b in
-        let f = lead_past m (taken w.next) w.cell b y q in
+    -- where the step leads, as the code counts it
+    pub step_led : (p : ℕ) → p ≡ past m.width w.cell h.number → (m.width + 1 ≤ p) × (lead_of m h.number w.cell ≡ Some (p - (m.width + 1)))
+    step_led p i =
+        let (y, q, d) = fits_next in
+        let f = lead_past m h.number w.cell h.known y q in
         let g : y ≡ p - (m.width + 1) = omega arith in
         (omega arith, q ∙ ap Some g)
 
-    pub step_to : (v : Walker) → lead_of m (taken w.next) w.cell ≡ Some v.cell → v.length ≡ w.length ⊕ weight (taken w.next)
+    -- the walker moved
+    pub step_to : (v : Walker) → lead_of m h.number w.cell ≡ Some v.cell → v.length ≡ w.length ⊕ weight h.number
         → taken v.next ≡ next (lead_of m) t o.at v.cell → Stepped m t o w v
     step_to v q sum ready =
-        let (y, p, d) = fits_next w s b in
+        let (y, p, d) = fits_next in
         let c : y ≡ v.cell = cc in
-        let n : get_or t w.cell 0 ≡ get_or t v.cell 0 + cost (taken w.next) = d ∙ ap (λ (i : ℕ). get_or t i 0 + cost (taken w.next)) c in
-        let e = ap steps sum in
+        let n : get_or t w.cell 0 ≡ get_or t v.cell 0 + cost h.number = d ∙ ap (λ (i : ℕ). get_or t i 0 + cost h.number) c in
+        let k = ap steps sum in
         record {
-          still = λ h. absurd (omega arith);
-          moved = λ h. record {
-            lead = q;
-            sum = sum;
-            falls = omega (arith, cost_pos (taken w.next));
+          still = λ i. absurd (omega (arith, number, h.known));
+          moved = λ i. record {
+            lead = rw number q;
+            sum = rw number sum;
+            falls = omega (arith, cost_pos h.number);
             stands = record {
-              on = lands m (taken w.next) w.cell v.cell b q;
+              on = lands m h.number w.cell v.cell h.known q;
               ready = ready;
-              few = omega
-                  (arith, s.few, cost_pos (taken w.next), one_step (taken w.next % 2));
+              few = omega (arith, s.few, cost_pos h.number, one_step (h.number % 2));
             };
           };
         }
-
-  pub going_start : (w : Walker) (h : ℕ) → Stands m t o w → Walked m t o w w 0 h
-  going_start w h s = record {
-    stands = s;
-    falls = omega arith;
-    first = λ e. refl;
-    split = λ hs a r. record { rest = hs; left = a; run = r; heads = refl; sum = refl };
-  }
 
   again_more : (n h : ℕ) (hs : List ℕ) → again n h (h ∷ hs) ≡ again (suc n) h hs
   again_more zero h hs = refl
@@ -126,7 +111,7 @@ module _ (m : Map) (t : List ℕ) (o : Ranking) where
       }
 
   -- while its next heading is h, the walker moves
-  pub moves : (w v : Walker) (h : ℕ) → h < 8 → taken w.next ≡ h → Stepped m t o w v → Steps m t o w v
+  moves : (w v : Walker) (h : ℕ) → h < 8 → taken w.next ≡ h → Stepped m t o w v → Steps m t o w v
   moves w v h b e s = s.moved (subst (λ (i : ℕ). i < 8) (sym e) b)
 
   -- one step more

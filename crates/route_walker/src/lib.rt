@@ -53,19 +53,21 @@ fn one_more(length: Length, heading: Heading) -> Length
     ensures { result ≡ length ⊕ weight heading.number }
 {
     if heading.is_diagonal() {
-        return Length {
+        Length {
             diagonal: length.diagonal + 1,
             ..length
-        };
-    }
-    Length {
-        straight: length.straight + 1,
-        ..length
+        }
+    } else {
+        Length {
+            straight: length.straight + 1,
+            ..length
+        }
     }
 }
 
 impl Walk<'_> {
     // Where a heading leads from a cell, counted a row and a column further, so that it is a whole number.
+    #[tactic(auto, using(crate::proofs::Past::near))]
     fn past_step(&self, cell: usize, heading: Heading) -> usize
         requires { cell < cells (floor_map self.now.floor) }
         ensures { (result ≡ past self.now.floor.width cell heading.number) × (result ≤ 16642) }
@@ -90,6 +92,7 @@ impl Walk<'_> {
     }
 
     // Whether the heading leads from the cell to a column of the floor, not past an end of the row.
+    #[tactic(auto, using(steps::proofs::Headings::changes_of))]
     fn in_width(&self, cell: usize, heading: Heading) -> bool
         ensures { InWidth self.now.floor.width cell heading.number result }
     {
@@ -99,6 +102,7 @@ impl Walk<'_> {
 
     // Whether the step is permitted and the numbers of its ends differ by it. The numbers are compared first: they
     // seldom do; and where they differ by a straight step, both ends are open.
+    #[tactic(auto, using(crate::proofs::Past::fitting))]
     fn fits_step(&self, cell: usize, heading: Heading) -> bool
         requires { cell < cells (floor_map self.now.floor) }
         ensures { result ≡ fits (lead_of (floor_map self.now.floor)) self.now.table.now cell heading.number }
@@ -112,24 +116,16 @@ impl Walk<'_> {
         self.in_width(cell, heading)
     }
 
-    // The lowest heading whose step fits the table; none at the goal. A straight one and a diagonal one at each turn.
-    // It must call `fits_step` twice a turn: with one call the compiler inlines `lead_of`, does not unroll the loop, and
-    // copies the table of headings at each turn, which makes a long route slower by half or more. Time it after any
-    // change here.
+    // The lowest heading whose step fits the table; none at the goal.
+    #[tactic(auto, using(crate::proofs::Searching::seeking), unfolding(crate::specs::inner::Walkers::next))]
     fn next_heading(&self, cell: usize) -> Option<Heading>
         requires { cell < cells (floor_map self.now.floor) }
         ensures { taken result ≡ next (lead_of (floor_map self.now.floor)) self.now.table.now numbered.at cell }
     {
-        for turn in 0..4 {
-            let straight = Heading { number: 2 * turn };
-            if self.fits_step(cell, straight) {
-                return Some(straight);
-            }
-            let diagonal = Heading {
-                number: 2 * turn + 1,
-            };
-            if self.fits_step(cell, diagonal) {
-                return Some(diagonal);
+        for number in 0..8 {
+            let heading = Heading { number };
+            if self.fits_step(cell, heading) {
+                return Some(heading);
             }
         }
         None
@@ -140,7 +136,7 @@ impl Walk<'_> {
         requires { cell < cells (floor_map self.now.floor) }
         ensures { Starts (floor_map self.now.floor) self.now.table.now numbered cell result }
     {
-        // So the walker's counts have room for the steps that are left.
+        // A number is at most the mark, so the walker's counts have room for the steps that are left.
         prove!(self.table[cell] <= MARK);
         Walker {
             cell,
@@ -171,7 +167,8 @@ impl Walk<'_> {
     // The leg ahead, the longest run of the walker's next heading; none at the goal.
     pub fn leg(&self, walker: Walker) -> Option<WalkedLeg>
         requires { Stands (floor_map self.now.floor) self.now.table.now numbered walker }
-        ensures { MatchOption result (walker.next ≡ None) (Leads (floor_map self.now.floor) self.now.table.now numbered walker) }
+        ensures { MatchOption result (walker.next ≡ None)
+            (Leads (floor_map self.now.floor) self.now.table.now numbered walker) }
     {
         let heading = walker.next?;
         let mut after = walker;

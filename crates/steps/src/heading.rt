@@ -15,8 +15,9 @@ pub struct Heading {
     pub ghost known: { number < 8 },
 }
 
-// The one table of headings.
-const CHANGES: [Change; 8] = [
+// The one table of headings. A static, as a constant array is copied to the stack at each read: that makes reading a
+// route three times as slow.
+static CHANGES: [Change; 8] = [
     Change { column: 1, row: 0 },
     Change { column: 2, row: 0 },
     Change { column: 2, row: 1 },

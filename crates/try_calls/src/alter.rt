@@ -1,49 +1,65 @@
 // Tables that are not right: entries of the solver's table altered in ways that a check could miss.
-ghost use Rattle.std.specs.Prelude.{◌≤◌, ◌<◌};
+use crate::tally::Line;
+use try_floors::entries;
+use try_floors::random::Random;
+use try_solver::ask::ENTRIES;
 
-use try_floors::{entries, random};
-use try_solver::grid;
-use try_solver::grid::WORDS;
+// How a table is altered: not at all, in so many of its entries, or in all, which are made the same, but the first.
+#[derive(Clone, Copy, PartialEq, Eq)]
+pub enum Alteration {
+    Nothing,
+    Entries(usize),
+    Whole { entry: u32, first: u32 },
+}
 
-// How many entries a table has at most.
-const MOST: usize = 16400;
+impl Alteration {
+    // Every way in which tables are altered: last, every entry at the limit and the first what a step makes it, past
+    // the limit or not, and 0.
+    pub const ALL: [Alteration; 6] = [
+        Alteration::Nothing,
+        Alteration::Entries(1),
+        Alteration::Entries(3),
+        Alteration::Whole {
+            entry: 0x3fff_0000,
+            first: 0x4000_0000,
+        },
+        Alteration::Whole {
+            entry: 0x0000_3fff,
+            first: 0x0001_3fff,
+        },
+        Alteration::Whole { entry: 0, first: 0 },
+    ];
 
-// Alters the entry of a cell, if the table has it.
-fn alter_one(words: &mut [u32; WORDS], cell: usize, state: u64) {
-    if cell < MOST {
-        let at = grid::TABLE + cell;
-        words[at] = entries::altered(words[at], state);
+    // The line of a check of a table that is so altered.
+    pub fn line(self) -> Line {
+        match self {
+            Alteration::Nothing => Line::Checks,
+            Alteration::Entries(1) => Line::OneAltered,
+            Alteration::Entries(_) => Line::SomeAltered,
+            Alteration::Whole { .. } => Line::OtherChecks,
+        }
+    }
+
+    // Alters the table of so many cells.
+    pub fn apply(self, table: &mut [u32; ENTRIES], cells: usize, random: Random) {
+        match self {
+            Alteration::Nothing => {}
+            Alteration::Entries(count) => alter_some(table, cells, count, random),
+            Alteration::Whole { entry, first } => {
+                table.fill(entry);
+                table[0] = first;
+            }
+        }
     }
 }
 
 // Alters so many entries of so many cells.
-fn alter_some(words: &mut [u32; WORDS], cells: usize, count: usize, seed: u64) {
-    let mut state = seed;
+fn alter_some(table: &mut [u32; ENTRIES], cells: usize, count: usize, seed: Random) {
+    let mut random = seed;
     for _ in 0..count {
-        let cell = random::pick(state, cells);
-        alter_one(words, cell, random::next(state));
-        state = random::later(state, 2);
-    }
-}
-
-// Makes every entry the same, and the first another.
-fn alter_all(words: &mut [u32; WORDS], entry: u32, first: u32) {
-    grid::fill_words(words, grid::TABLE, MOST, entry);
-    words[grid::TABLE] = first;
-}
-
-// In how many ways a table is left or altered.
-pub const WAYS: usize = 6;
-
-// Leaves the table as it is, alters one entry or several, makes every entry the same at the limit and the first what a step makes it, past the
-// limit or not, or makes them all 0.
-pub fn alter(words: &mut [u32; WORDS], cells: usize, way: usize, seed: u64) {
-    match way {
-        0 => {}
-        1 => alter_some(words, cells, 1, seed),
-        2 => alter_some(words, cells, 3, seed),
-        3 => alter_all(words, 1073676288, 1073741824),
-        4 => alter_all(words, 16383, 81919),
-        _ => alter_all(words, 0, 0),
+        if let Some(entry) = table.get_mut(random.pick(cells)) {
+            *entry = entries::altered(*entry, random.next());
+        }
+        random = random.later(2);
     }
 }

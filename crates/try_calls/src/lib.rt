@@ -1,122 +1,148 @@
-// Calls made of the library and of the second solver, over the same numbers and buffers, compared in all that they say and leave, and counted.
+// Calls made of the library and of the second solver, over the same numbers and buffers, compared in all that they say
+// and leave, and counted.
 //
-// What calls leave stands in the lent buffers: the library's table in the memory from OURS on and its legs in a buffer of bytes, the solver's
-// in its own parts of the memory. Both are overwritten before a call and compared after it, with a fault planted in the library's where one is
-// asked for. Nothing is promised of what is found, but that every function ends, with no index out of range and no number that wraps.
+// What calls leave stands in a table and a buffer of legs for each of the two. Both are overwritten before a call and
+// compared after it, with a fault planted in what the library said or left where one is asked for. Nothing is promised
+// of what is found, but that every function ends, with no index out of range and no number that wraps.
 #![tactic(auto)]
 
 pub mod alter;
+pub mod fault;
+mod fitting;
 mod left;
 mod library;
 pub mod tally;
 
-ghost use Rattle.std.specs.Prelude.{◌≤◌, ◌<◌};
+use alter::Alteration;
+use fault::Fault;
+use fitting::Fitting;
+use left::Left;
+use tally::{Line, Tally};
+use try_floors::random::Random;
+use try_solver::Solver;
+use try_solver::ask::{Call, ENTRIES, MAP, ROOM, Refused, Said};
 
-use try_solver::ask;
-use try_solver::ask::{Call, Said, VALUES};
-use try_solver::grid::{MAP, WORDS};
+// What is asked of the two: a call, the line in which it is counted, and the fault that is planted, if one is.
+#[derive(Clone, Copy)]
+pub struct Trial {
+    pub call: Call,
+    pub line: Line,
+    pub fault: Option<Fault>,
+}
 
-// Where the library's table begins in the memory.
-pub const OURS: usize = 186000;
-
-// Room for the library's legs, as many as any way needs.
-pub const ROOM: usize = 33000;
-
-// The most bytes and entries that a call is made over.
-const ENTRIES: usize = 16400;
-
-// In how many places of what a call says a fault is planted: the number, and the first values. After them one is planted in the entries that
-// are left, and one in the bytes.
-pub const SPOKEN: usize = 5;
-
-// In how many places a fault is planted at most.
-pub const PLANTED: usize = 7;
-
-// Whether a fault can be planted at a place of a call of a kind, from 1 on.
-pub fn is_planted(kind: usize, place: usize) -> bool {
-    if place == 6 {
-        return left::leaves_entries(kind);
+impl From<Call> for Trial {
+    // A call that is counted with those of its kind, and no fault.
+    fn from(call: Call) -> Trial {
+        Trial {
+            call,
+            line: Line::from(call.kind),
+            fault: None,
+        }
     }
-    if place == 7 {
-        return left::leaves_legs(kind);
-    }
-    place <= SPOKEN
 }
 
 // How many legs a route's answer counts.
 pub fn legs_of(said: Said) -> usize {
-    let values = said.values;
-    let number = said.number;
-    match number {
-        0 => values[2],
-        10 => values[0],
-        _ => 0,
+    match said {
+        Ok(values) => values[2],
+        Err(Refused { number: 10, place }) => place,
+        Err(_) => 0,
     }
 }
 
-// Whether two calls said the same.
-fn is_same(one: Said, other: Said) -> bool {
-    let values = one.values;
-    let others = other.values;
-    for i in 0..VALUES {
-        if values[i] != others[i] {
-            return false;
+// What calls are made over: the map, the solver with its table and legs, the library's table and legs, and what was
+// counted.
+#[derive(Drop)]
+pub struct Bench {
+    pub map: [u8; MAP],
+    solver: Solver,
+    table: [u32; ENTRIES],
+    legs: [u8; ROOM],
+    pub tally: Tally,
+}
+
+impl Bench {
+    // A bench on which nothing was tried.
+    pub fn new() -> Bench {
+        Bench {
+            map: [0; MAP],
+            solver: Solver::new(),
+            table: [0; ENTRIES],
+            legs: [0; ROOM],
+            tally: Tally::new(),
         }
     }
-    one.number == other.number
-}
 
-// What was said, with a fault in the number (1) or in a value (2 and more), or none (0).
-fn spoilt(said: Said, plant: usize) -> Said {
-    let mut number = said.number;
-    let mut values = said.values;
-    match plant {
-        1 => number ^= 1,
-        2 => values[0] ^= 1,
-        3 => values[1] ^= 1,
-        4 => values[2] ^= 1,
-        5 => values[3] ^= 1,
-        _ => {}
+    // Alters the solver's table on a floor of so many cells: checks, and routes that are read, are over it as it
+    // stands.
+    pub fn alter(&mut self, alteration: Alteration, cells: usize, random: Random) {
+        alteration.apply(&mut self.solver.table, cells, random);
     }
-    Said { number, values }
-}
 
-// Counts a call, and for a route its leg buffer.
-fn conclude(call: Call, said: Said, same: bool, words: &mut [u32; WORDS]) {
-    tally::note_answer(words, said.number);
-    tally::note_one(words, call.line, same);
-    if left::leaves_legs(call.kind) {
-        tally::note_one(words, tally::line_of_buffer(call.room, legs_of(said)), same);
+    // Overwrites what a call is to leave.
+    fn wipe(&mut self, left: Left) {
+        self.table[..left.entries].fill(0xdeadbeef);
+        self.solver.table[..left.entries].fill(0xdeadbeef);
+        self.legs[..left.bytes].fill(0xaa);
+        self.solver.legs[..left.bytes].fill(0xaa);
     }
-}
 
-// Makes a call over buffers that are long enough: what the solver said.
-fn make(call: Call, map: &[u8; MAP], words: &mut [u32; WORDS], legs: &mut [u8; ROOM]) -> Said
-    requires { (call.bytes ≤ 2100) × (call.entries ≤ 16400) × (call.room ≤ 33000) }
-{
-    left::wipe(call, words, legs);
-    let ours = spoilt(library::answer(call, map, words, legs), call.plant);
-    let theirs = try_solver::answer(call, map, words);
-    let same = left::is_same(call, words, legs);
-    conclude(call, theirs, is_same(ours, theirs) && same, words);
-    theirs
-}
+    // Plants a fault in what the library left, if it goes there.
+    fn spoil(&mut self, left: Left, fault: Option<Fault>) {
+        match fault {
+            Some(Fault::Entry) => fault::spoil(&mut self.table[..left.entries], |entry| entry ^ 1),
+            Some(Fault::Leg) => fault::spoil(&mut self.legs[..left.bytes], |byte| byte ^ 1),
+            _ => {}
+        }
+    }
 
-// Makes a call, if the buffers are long enough for it: what the solver said.
-pub fn attempt(
-    call: Call,
-    map: &[u8; MAP],
-    words: &mut [u32; WORDS],
-    legs: &mut [u8; ROOM],
-) -> Said {
-    if MAP < call.bytes {
-        return ask::refused(0, 0);
+    // Counts what was left: whether both left the same.
+    fn is_left_same(&mut self, left: Left) -> bool {
+        let entries = self.tally.compare(
+            Line::Entries,
+            &self.table[..left.entries],
+            &self.solver.table[..left.entries],
+        );
+        let bytes = self.tally.compare(
+            Line::LegBytes,
+            &self.legs[..left.bytes],
+            &self.solver.legs[..left.bytes],
+        );
+        entries && bytes
     }
-    if ENTRIES < call.entries {
-        return ask::refused(0, 0);
+
+    // Counts a call, and for a route its leg buffer.
+    fn conclude(&mut self, trial: Trial, said: Said, is_same: bool) {
+        self.tally.note_answer(said);
+        self.tally.note_one(trial.line, is_same);
+        if left::leaves_legs(trial.call.kind)
+            && let Some(line) = Line::of_buffer(trial.call.room, legs_of(said))
+        {
+            self.tally.note_one(line, is_same);
+        }
     }
-    if ROOM < call.room {
-        return ask::refused(0, 0);
+
+    // Makes the call of a trial, if the buffers are long enough for it: what the solver said.
+    pub fn attempt_trial(&mut self, trial: Trial) -> Option<Said> {
+        let fitting = Fitting::new(trial.call)?;
+        let left = Left::of(fitting);
+        self.wipe(left);
+        let said = library::answer(
+            fitting,
+            &self.map,
+            &mut self.table,
+            &self.solver.table,
+            &mut self.legs,
+        );
+        let ours = trial.fault.map_or(said, |fault| fault.spoilt(said));
+        let theirs = self.solver.answer(trial.call, &self.map);
+        self.spoil(left, trial.fault);
+        let is_same = self.is_left_same(left) && ours == theirs;
+        self.conclude(trial, theirs, is_same);
+        Some(theirs)
     }
-    make(call, map, words, legs)
+    // Makes a call that is counted with those of its kind, with no fault.
+    pub fn attempt(&mut self, call: Call) -> Option<Said> {
+        self.attempt_trial(Trial::from(call))
+    }
 }

@@ -1,186 +1,93 @@
 // The library's calls, and what they say in the form of the trials: the only place that knows the library's answers.
-ghost use Rattle.std.specs.Prelude.{◌+◌, ◌≤◌, ◌<◌, length};
-
-use crate::{OURS, ROOM};
-use answers::{Refusal, Tested};
-use floor::Accepted;
-use lengths::{Compared, Distance, Length};
-use rooms::Roomed;
-use route::Answer;
-use try_solver::ask::{Call, Said};
-use try_solver::grid::{MAP, WORDS};
-use try_solver::{ask, grid};
+use crate::fitting::Fitting;
+use answers::Refusal;
+use floor::{Map, Spot};
+use lengths::Length;
+use route_legs::Way;
+use try_solver::ask;
+use try_solver::ask::{Call, ENTRIES, Kind, MAP, ROOM, Refused, Said, VALUES};
 
 // A refusal, with its place.
-fn refused(refusal: Refusal) -> Said {
-    ask::refused(refusal.number as usize, refusal.place)
-}
-
-// The answer of a call without values.
-fn of_tested(tested: Tested) -> Said {
-    match tested {
-        Tested::Passed => ask::gives(0, 0, 0, 0),
-        Tested::Refused(refusal) => refused(refusal),
+fn refused(refusal: Refusal) -> Refused {
+    Refused {
+        number: refusal.number(),
+        place: refusal.place(),
     }
 }
 
-// Accepting a floor.
-fn accept(call: Call, map: &[u8]) -> Said {
-    match floor::accept(call.width, call.height, map) {
-        Accepted::Floor(sides) => ask::gives(sides.width, sides.height, 0, 0),
-        Accepted::Refused(refusal) => refused(refusal),
+// A spot, as the library takes it.
+fn spot_of(spot: ask::Spot) -> Spot {
+    Spot {
+        column: spot.column,
+        row: spot.row,
     }
 }
 
-// The room around a cell.
-fn room(call: Call, map: &[u8]) -> Said {
-    match rooms::room_around(
-        call.width,
-        call.height,
-        map,
-        call.from_column,
-        call.from_row,
-    ) {
-        Roomed::Room(room) => ask::gives(room.left, room.top, room.right, room.bottom),
-        Roomed::Refused(refusal) => refused(refusal),
+// A length, as the library takes it.
+fn length_of(length: ask::Length) -> Length {
+    Length {
+        straight: length.straight,
+        diagonal: length.diagonal,
     }
 }
 
-// Comparing two lengths.
-fn compare(call: Call) -> Said {
-    let one = Length {
-        straight: call.straight,
-        diagonal: call.diagonal,
-    };
-    let other = Length {
-        straight: call.other_straight,
-        diagonal: call.other_diagonal,
-    };
-    match lengths::compare(one, other) {
-        Compared::Shorter => ask::gives(1, 0, 0, 0),
-        Compared::NotShorter => ask::gives(0, 0, 0, 0),
-        Compared::Refused(refusal) => refused(refusal),
-    }
+// The values that a way gives: its length and how many legs it has.
+fn of_way(way: Way) -> [usize; VALUES] {
+    let Length { straight, diagonal } = way.length;
+    [straight as usize, diagonal as usize, way.legs, 0]
 }
 
-// Speaking a distance.
-fn distance(call: Call) -> Said {
-    let length = Length {
-        straight: call.straight,
-        diagonal: call.diagonal,
-    };
-    match lengths::distance_spoken(call.size, length) {
-        Distance::Centimetres(n) => ask::gives(n as usize, 0, 0, 0),
-        Distance::Refused(refusal) => refused(refusal),
-    }
-}
-
-// Filling a table.
-fn fill(call: Call, map: &[u8], table: &mut [u32]) -> Said {
-    of_tested(table::fill(call.width, call.height, map, call.column, call.row, table))
-}
-
-// Checking a table.
-fn check(call: Call, map: &[u8], table: &[u32]) -> Said {
-    of_tested(table::check(call.width, call.height, map, call.column, call.row, table))
-}
-
-// A route's answer: its length and leg count, or the refusal with its place.
-fn of_route(answer: Answer) -> Said {
-    match answer {
-        Answer::Way(way) => {
-            let length = way.length;
-            ask::gives(
-                length.straight as usize,
-                length.diagonal as usize,
-                way.legs,
-                0,
-            )
+// The values that a call gives, or its refusal.
+fn given(
+    call: Call,
+    map: &Map,
+    table: &mut [u32],
+    lent: &[u32],
+    legs: &mut [u8],
+) -> Result<[usize; VALUES], Refusal> {
+    let start = spot_of(call.start);
+    let goal = spot_of(call.goal);
+    let length = length_of(call.length);
+    match call.kind {
+        Kind::Floors => {
+            let sides = floor::accept(map)?;
+            Ok([sides.width, sides.height, 0, 0])
         }
-        Answer::Refused(refusal) => refused(refusal),
+        Kind::Rooms => {
+            let room = rooms::room_around(map, start)?;
+            Ok([room.left, room.top, room.right, room.bottom])
+        }
+        Kind::Comparisons => {
+            let is_shorter = lengths::compare(length, length_of(call.other))?;
+            Ok([usize::from(is_shorter), 0, 0, 0])
+        }
+        Kind::Distances => {
+            let centimetres = lengths::distance_spoken(call.size, length)?;
+            Ok([centimetres as usize, 0, 0, 0])
+        }
+        Kind::Tables => table::fill(map, goal, table).map(|_| [0; VALUES]),
+        Kind::Checks => table::check(map, goal, lent).map(|_| [0; VALUES]),
+        Kind::FoundRoutes => route::find_route(map, start, goal, table, legs).map(of_way),
+        Kind::ReadRoutes => route::route_from_table(map, start, goal, lent, legs).map(of_way),
     }
 }
 
-// Finding a route.
-fn find(call: Call, map: &[u8], table: &mut [u32], legs: &mut [u8]) -> Said {
-    of_route(route::find_route(
-        call.width,
-        call.height,
-        map,
-        call.from_column,
-        call.from_row,
-        call.column,
-        call.row,
-        table,
-        legs,
-    ))
-}
-
-// Reading a route from a table.
-fn read(call: Call, map: &[u8], table: &[u32], legs: &mut [u8]) -> Said {
-    of_route(route::route_from_table(
-        call.width,
-        call.height,
-        map,
-        call.from_column,
-        call.from_row,
-        call.column,
-        call.row,
-        table,
-        legs,
-    ))
-}
-
-// Filling the library's table.
-fn fill_ours(call: Call, map: &[u8], words: &mut [u32]) -> Said
-    requires { 186000 + call.entries ≤ length words.old }
-{
-    let end = OURS + call.entries;
-    fill(call, map, &mut words[OURS..end])
-}
-
-// Finding a route, in the library's table.
-fn find_ours(call: Call, map: &[u8], words: &mut [u32], legs: &mut [u8]) -> Said
-    requires { (186000 + call.entries ≤ length words.old) × (call.room ≤ length legs.old) }
-{
-    let end = OURS + call.entries;
-    let room = call.room;
-    find(call, map, &mut words[OURS..end], &mut legs[0..room])
-}
-
-// A call that reads a table, over the solver's, as it stands.
-fn over_theirs(call: Call, map: &[u8], words: &[u32], legs: &mut [u8]) -> Said
-    requires { (186000 + call.entries ≤ length words.now) × (call.room ≤ length legs.old) }
-{
-    let end = grid::TABLE + call.entries;
-    let room = call.room;
-    if call.kind == ask::CHECKS {
-        return check(call, map, &words[grid::TABLE..end]);
-    }
-    read(call, map, &words[grid::TABLE..end], &mut legs[0..room])
-}
-
-// What a call says, over its bytes of the map.
-fn over_map(call: Call, map: &[u8], words: &mut [u32; WORDS], legs: &mut [u8; ROOM]) -> Said
-    requires { (call.entries ≤ 16400) × (call.room ≤ 33000) }
-{
-    let kind = call.kind;
-    match kind {
-        ask::FLOORS => accept(call, map),
-        ask::ROOMS => room(call, map),
-        ask::COMPARISONS => compare(call),
-        ask::DISTANCES => distance(call),
-        ask::TABLES => fill_ours(call, map, words),
-        ask::FOUND_ROUTES => find_ours(call, map, words, legs),
-        _ => over_theirs(call, map, words, legs),
-    }
-}
-
-// What a call says.
-pub fn answer(call: Call, map: &[u8; MAP], words: &mut [u32; WORDS], legs: &mut [u8; ROOM]) -> Said
-    requires { (call.bytes ≤ 2100) × (call.entries ≤ 16400) × (call.room ≤ 33000) }
-{
-    let bytes = call.bytes;
-    let whole = &map[..];
-    over_map(call, &whole[0..bytes], words, legs)
+// What a call says, over its part of each buffer: it fills the table, and checks and reads the one that is lent.
+pub fn answer(
+    fitting: Fitting,
+    map: &[u8; MAP],
+    table: &mut [u32; ENTRIES],
+    lent: &[u32; ENTRIES],
+    legs: &mut [u8; ROOM],
+) -> Said {
+    let call = fitting.call;
+    let map = Map {
+        width: call.sides.width,
+        height: call.sides.height,
+        bytes: &map[..call.bytes],
+    };
+    let table = &mut table[..call.entries];
+    let lent = &lent[..call.entries];
+    let legs = &mut legs[..call.room];
+    given(call, &map, table, lent, legs).map_err(refused)
 }

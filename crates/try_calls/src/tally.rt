@@ -1,187 +1,195 @@
-// What is counted, in the memory from COUNTS on: for each line how many were compared and how many differed, and how often each of the
-// numbers was the answer.
-ghost use Rattle.std.specs.Prelude.{◌≤◌, ◌<◌};
+// What is counted: for each line how many were compared and how many differed, and how often each of the numbers was
+// the answer.
+use std::{fmt, io};
+use try_solver::ask::{Kind, Said};
 
-use std::io;
-use try_solver::grid::WORDS;
-use try_solver::{ask, grid};
+// The lines: one for each kind of call, where checks are those of filled tables; then checks of tables with one entry
+// altered, with several, and of any others; routes with legs, by their leg buffers; and what calls left. A new line
+// stands here, in `ALL` and in `fmt`.
+#[derive(Clone, Copy, PartialEq, Eq)]
+pub enum Line {
+    Floors,
+    Rooms,
+    Comparisons,
+    Distances,
+    Tables,
+    Checks,
+    FoundRoutes,
+    ReadRoutes,
+    OneAltered,
+    SomeAltered,
+    OtherChecks,
+    ExactBuffers,
+    ShortBuffers,
+    EmptyBuffers,
+    Entries,
+    LegBytes,
+}
 
-const COUNTS: usize = 203000;
+// How many lines there are.
+const LINES: usize = 16;
 
-// Two counts for each of so many lines.
-const LINES: usize = 32;
+impl Line {
+    // Every line, in the order in which they are printed.
+    const ALL: [Line; LINES] = [
+        Line::Floors,
+        Line::Rooms,
+        Line::Comparisons,
+        Line::Distances,
+        Line::Tables,
+        Line::Checks,
+        Line::FoundRoutes,
+        Line::ReadRoutes,
+        Line::OneAltered,
+        Line::SomeAltered,
+        Line::OtherChecks,
+        Line::ExactBuffers,
+        Line::ShortBuffers,
+        Line::EmptyBuffers,
+        Line::Entries,
+        Line::LegBytes,
+    ];
 
-// Then one for each number up to 31, and one for any other.
-const ANSWERS: usize = 203064;
-
-const OTHER: usize = 32;
-
-// The lines: first one for each kind of call, then checks of tables with one entry altered, with several, and of any others; routes with legs,
-// by their leg buffers: exactly long enough, one byte short, and empty; and what calls left. A new line has its number here and its name below.
-pub const ONE_ALTERED: usize = 8;
-
-pub const SOME_ALTERED: usize = 9;
-
-pub const OTHER_CHECKS: usize = 10;
-
-pub const EXACT_BUFFERS: usize = 11;
-
-pub const SHORT_BUFFERS: usize = 12;
-
-pub const EMPTY_BUFFERS: usize = 13;
-
-pub const ENTRIES: usize = 14;
-
-pub const LEG_BYTES: usize = 15;
-
-// How many lines are printed.
-const SHOWN: usize = 16;
-
-// No line: what is counted in it is not printed.
-const NONE: usize = 31;
-
-// Prints the name of a line.
-fn print_name(rt: &impl Print, line: usize) -> io::Result<()> {
-    match line {
-        ask::FLOORS => say(rt, "floors: "),
-        ask::ROOMS => say(rt, "rooms: "),
-        ask::COMPARISONS => say(rt, "comparisons: "),
-        ask::DISTANCES => say(rt, "distances: "),
-        ask::TABLES => say(rt, "tables: "),
-        ask::CHECKS => say(rt, "checks of filled tables: "),
-        ask::FOUND_ROUTES => say(rt, "routes found: "),
-        ask::READ_ROUTES => say(rt, "routes read: "),
-        ONE_ALTERED => say(rt, "checks with one entry altered: "),
-        SOME_ALTERED => say(rt, "checks with several entries altered: "),
-        OTHER_CHECKS => say(rt, "checks of other tables: "),
-        EXACT_BUFFERS => say(rt, "leg buffers exactly long enough: "),
-        SHORT_BUFFERS => say(rt, "leg buffers one byte short: "),
-        EMPTY_BUFFERS => say(rt, "leg buffers empty: "),
-        ENTRIES => say(rt, "entries left in tables: "),
-        LEG_BYTES => say(rt, "bytes left in leg buffers: "),
-        _ => say(rt, "others: "),
+    // The line of a route's leg buffer, if it has legs and its buffer is exactly long enough, one byte short, or empty.
+    pub fn of_buffer(room: usize, legs: usize) -> Option<Line> {
+        match room {
+            _ if legs == 0 => None,
+            0 => Some(Line::EmptyBuffers),
+            _ if room % 2 == 0 && room / 2 == legs => Some(Line::ExactBuffers),
+            _ if room % 2 == 1 && room / 2 + 1 == legs => Some(Line::ShortBuffers),
+            _ => None,
+        }
     }
 }
 
-// Prints text.
-fn say(rt: &impl Print, text: &str) -> io::Result<()> {
-    rt.print(text)
-}
-
-// The line of a route's leg buffer, if it has legs and its buffer is exactly long enough, one byte short, or empty.
-pub fn line_of_buffer(room: usize, legs: usize) -> usize {
-    if legs == 0 {
-        return NONE;
-    }
-    if room == 0 {
-        return EMPTY_BUFFERS;
-    }
-    if room % 2 == 0 && room / 2 == legs {
-        return EXACT_BUFFERS;
-    }
-    if room % 2 == 1 && room / 2 + 1 == legs {
-        return SHORT_BUFFERS;
-    }
-    NONE
-}
-
-// The sum of two counts, up to 2^32 - 1.
-fn sum(count: u32, more: usize) -> u32 {
-    if more <= (u32::MAX - count) as usize {
-        return count + more as u32;
-    }
-    u32::MAX
-}
-
-// Adds to a count.
-fn add(words: &mut [u32; WORDS], at: usize, more: usize)
-    requires { at < 204000 }
-{
-    words[at] = sum(words[at], more);
-}
-
-// Counts so many compared, and so many of them that differed.
-pub fn note(words: &mut [u32; WORDS], line: usize, compared: usize, differed: usize) {
-    if line < LINES {
-        add(words, COUNTS + 2 * line, compared);
-        add(words, COUNTS + 2 * line + 1, differed);
+impl From<Kind> for Line {
+    fn from(kind: Kind) -> Line {
+        match kind {
+            Kind::Floors => Line::Floors,
+            Kind::Rooms => Line::Rooms,
+            Kind::Comparisons => Line::Comparisons,
+            Kind::Distances => Line::Distances,
+            Kind::Tables => Line::Tables,
+            Kind::Checks => Line::Checks,
+            Kind::FoundRoutes => Line::FoundRoutes,
+            Kind::ReadRoutes => Line::ReadRoutes,
+        }
     }
 }
 
-// Counts one that was compared.
-pub fn note_one(words: &mut [u32; WORDS], line: usize, same: bool) {
-    note(words, line, 1, !same as usize);
-}
-
-// Counts the number of an answer.
-pub fn note_answer(words: &mut [u32; WORDS], number: usize) {
-    if number < OTHER {
-        add(words, ANSWERS + number, 1);
-    } else {
-        add(words, ANSWERS + OTHER, 1);
+impl fmt::Display for Line {
+    fn fmt<W: fmt::Write>(&self, f: &mut fmt::Formatter<W>) -> fmt::Result {
+        f.write_str(match self {
+            Line::Floors => "floors",
+            Line::Rooms => "rooms",
+            Line::Comparisons => "comparisons",
+            Line::Distances => "distances",
+            Line::Tables => "tables",
+            Line::Checks => "checks of filled tables",
+            Line::FoundRoutes => "routes found",
+            Line::ReadRoutes => "routes read",
+            Line::OneAltered => "checks with one entry altered",
+            Line::SomeAltered => "checks with several entries altered",
+            Line::OtherChecks => "checks of other tables",
+            Line::ExactBuffers => "leg buffers exactly long enough",
+            Line::ShortBuffers => "leg buffers one byte short",
+            Line::EmptyBuffers => "leg buffers empty",
+            Line::Entries => "entries left in tables",
+            Line::LegBytes => "bytes left in leg buffers",
+        })
     }
 }
 
-// Takes every count back.
-pub fn clear(words: &mut [u32; WORDS]) {
-    grid::fill_words(words, COUNTS, 100, 0);
+// How many were compared, and how many of them differed.
+#[derive(Clone, Copy, PartialEq, Eq)]
+struct Counts {
+    compared: usize,
+    differed: usize,
 }
 
-// Prints a count, and what it counts.
-fn print_count(rt: &impl Print, words: &[u32; WORDS], at: usize, name: &str) -> io::Result<()>
-    requires { at < 204000 }
-{
-    let count = grid::word(words, at);
-    print!(rt; "{count}")?;
-    say(rt, name)
-}
-
-// Prints how many of a line were compared, and how many differed.
-fn print_line(rt: &impl Print, words: &[u32; WORDS], line: usize, title: &str) -> io::Result<()>
-    requires { line < 32 }
-{
-    say(rt, title)?;
-    print_name(rt, line)?;
-    print_count(rt, words, COUNTS + 2 * line, " compared, ")?;
-    print_count(rt, words, COUNTS + 2 * line + 1, " differed\n")
-}
-
-// Prints so many lines, with a title.
-fn print_some(rt: &impl Print, words: &[u32; WORDS], lines: usize, title: &str) -> io::Result<()>
-    requires { lines ≤ 16 }
-{
-    for line in 0..lines {
-        print_line(rt, words, line, title)?;
+impl fmt::Display for Counts {
+    fn fmt<W: fmt::Write>(&self, f: &mut fmt::Formatter<W>) -> fmt::Result {
+        let Counts { compared, differed } = *self;
+        write!(f, "{compared} compared, {differed} differed")
     }
-    Ok(())
 }
 
-// Prints the lines of calls in which faults were planted.
-pub fn print_planted(rt: &impl Print, words: &[u32; WORDS]) -> io::Result<()> {
-    print_some(rt, words, ask::CALLS, "planted in ")
+// How many numbers of answers are counted: each up to 31, and then any other.
+const NUMBERS: usize = 33;
+
+// The highest number that has a meaning: its count is printed though it is 0.
+const LAST: usize = 13;
+
+// The counts of every line, and of the numbers of answers.
+#[derive(Drop)]
+pub struct Tally {
+    lines: [Counts; LINES],
+    answers: [usize; NUMBERS],
 }
 
-// Prints how often a number was the answer; of those above 13, only if it was.
-fn print_answer(rt: &impl Print, words: &[u32; WORDS], number: usize) -> io::Result<()>
-    requires { number ≤ 32 }
-{
-    if 13 < number && grid::word(words, ANSWERS + number) == 0 {
-        return Ok(());
+impl Tally {
+    // Nothing counted.
+    pub fn new() -> Tally {
+        Tally {
+            lines: [Counts {
+                compared: 0,
+                differed: 0,
+            }; LINES],
+            answers: [0; NUMBERS],
+        }
     }
-    print!(rt; "answer {number}: ")?;
-    print_count(rt, words, ANSWERS + number, " times\n")
-}
 
-// Prints how often each number was the answer.
-fn print_answers(rt: &impl Print, words: &[u32; WORDS]) -> io::Result<()> {
-    for number in 0..OTHER + 1 {
-        print_answer(rt, words, number)?;
+    // Counts so many compared, and so many of them that differed.
+    fn note(&mut self, line: Line, compared: usize, differed: usize) {
+        let counts = &mut self.lines[line as usize];
+        counts.compared = counts.compared.saturating_add(compared);
+        counts.differed = counts.differed.saturating_add(differed);
     }
-    Ok(())
-}
 
-// Prints every line, and the answers.
-pub fn print(rt: &impl Print, words: &[u32; WORDS]) -> io::Result<()> {
-    print_some(rt, words, SHOWN, "")?;
-    print_answers(rt, words)
+    // Counts one that was compared.
+    pub fn note_one(&mut self, line: Line, is_same: bool) {
+        self.note(line, 1, usize::from(!is_same));
+    }
+
+    // Counts elements that were left, by ours and by theirs: whether they are the same.
+    pub fn compare<T: PartialEq>(&mut self, line: Line, ours: &[T], theirs: &[T]) -> bool {
+        let pairs = ours.iter().zip(theirs);
+        let differed = pairs.filter(|(one, other)| one != other).count();
+        self.note(line, ours.len(), differed);
+        differed == 0
+    }
+
+    // Counts the number of an answer, which is 0 where it gives values.
+    pub fn note_answer(&mut self, said: Said) {
+        let number = said.err().map_or(0, |refused| refused.number);
+        let times = &mut self.answers[number.min(NUMBERS - 1)];
+        *times = times.saturating_add(1);
+    }
+
+    // Prints the lines of calls in which faults were planted.
+    pub fn print_planted(&self, rt: &impl Print) -> io::Result<()> {
+        for kind in Kind::ALL {
+            let line = Line::from(kind);
+            println!(rt; "planted in {line}: {}", self.lines[line as usize])?;
+        }
+        Ok(())
+    }
+
+    // Prints how often each number was the answer; of those that have no meaning, only if it was.
+    fn print_answers(&self, rt: &impl Print) -> io::Result<()> {
+        for (number, times) in self.answers.iter().enumerate() {
+            if number <= LAST || *times != 0 {
+                println!(rt; "answer {number}: {times} times")?;
+            }
+        }
+        Ok(())
+    }
+
+    // Prints every line, and the answers.
+    pub fn print(&self, rt: &impl Print) -> io::Result<()> {
+        for line in Line::ALL {
+            println!(rt; "{line}: {}", self.lines[line as usize])?;
+        }
+        self.print_answers(rt)
+    }
 }

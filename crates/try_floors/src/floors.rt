@@ -1,121 +1,101 @@
-// Maps of floors to try: any small floor, by the binary digits of a seed, floors that look random, and given ones.
-ghost use Rattle.std.specs.Prelude.{◌≤◌, ◌<◌};
+// Maps of floors to try: any small floor, by the binary digits of a number, floors that look random, and given ones.
+use crate::random::Random;
+use try_solver::ask;
+use try_solver::ask::{MAP, Sides, Spot};
 
-use crate::random;
-use try_solver::grid;
-use try_solver::grid::MAP;
-
-// A pattern up to 100 blocks so many cells of a hundred. This one has walls with a gap at their ends by turns.
-pub const WALLS: usize = 101;
-
-// This one takes the cells from the seed's binary digits.
-pub const DIGITS: usize = 102;
-
-// This one, 103 wide and 71 high, is a fork: from (0, 50) to (102, 49) lead a way of 143 straight steps, through lanes of one cell, and a
-// way of 99 diagonal steps and 3 straight ones, through lanes of three. The first is shorter, by less than a hundredth of a step.
-pub const FORK: usize = 103;
+// Which cells of a floor are blocked.
+#[derive(Clone, Copy, PartialEq, Eq)]
+pub enum Pattern {
+    // So many of a hundred, by numbers that look random.
+    Density(usize),
+    // Walls with a gap at their ends by turns.
+    Walls,
+    // By the binary digits of a number, row by row.
+    Digits(u64),
+    // 103 wide and 71 high, a fork: from (0, 50) to (102, 49) lead a way of 143 straight steps, through lanes of one
+    // cell, and a way of 99 diagonal steps and 3 straight ones, through lanes of three. The first is shorter, by less
+    // than a hundredth of a step.
+    Fork,
+}
 
 // Whether a cell of the fork is open.
-fn on_fork(column: usize, row: usize) -> bool
-    requires { (column < 128) × (row < 128) }
-{
-    if row == 70 {
-        return true;
-    }
-    if column == 0 {
-        return 49 <= row;
-    }
-    if column == 102 {
-        return 48 <= row;
-    }
-    if column <= 50 {
-        return 49 <= column + row && column + row <= 51;
-    }
-    if column <= 52 {
-        return row == 0;
-    }
-    row + 52 <= column && column <= row + 54
-}
-
-// Whether a cell is blocked.
-fn is_blocked(pattern: usize, width: usize, column: usize, row: usize, state: u64) -> bool
-    requires { (column < 128) × (row < 128) }
-{
-    if pattern == DIGITS {
-        return state % 2 == 1;
-    }
-    if pattern == FORK {
-        return !on_fork(column, row);
-    }
-    if pattern != WALLS {
-        return random::below(state, 100) < pattern;
-    }
-    if row % 2 == 0 {
-        return false;
-    }
-    if row % 4 == 1 {
-        return column != 0;
-    }
-    column + 1 != width
-}
-
-// The state after a cell.
-fn follow(pattern: usize, state: u64) -> u64 {
-    if pattern == DIGITS {
-        return state / 2;
-    }
-    random::next(state)
-}
-
-// Sets the bit of a column in a byte of the map, if it is to be and the map has it.
-fn block_if(so: bool, map: &mut [u8; MAP], at: usize, column: usize) {
-    if so && at < MAP {
-        block(map, at, column);
+fn on_fork(spot: Spot) -> bool {
+    let Spot { column, row } = spot;
+    match column {
+        _ if row == 70 => true,
+        0 => 49 <= row,
+        102 => 48 <= row,
+        1..=50 => row.abs_diff(50 - column) <= 1,
+        51 | 52 => row == 0,
+        _ => row.abs_diff(column - 53) <= 1,
     }
 }
 
-// Sets the bit of a column in a byte of the map.
-fn block(map: &mut [u8; MAP], at: usize, column: usize)
-    requires { at < 2100 }
-{
-    map[at] |= 1 << (column % 8);
-}
-
-// Sets the last bit of one of so many bytes of the map, for one seed in four: past the width, where the byte ends a row that ends before it.
-pub fn pad_some(map: &mut [u8; MAP], bytes: usize, seed: u64) {
-    let so = random::below(seed, 4) == 0;
-    block_if(so, map, random::pick(random::next(seed), bytes), 7);
-}
-
-// Opens every cell.
-fn clear(map: &mut [u8; MAP]) {
-    for i in 0..MAP {
-        map[i] = 0;
+// Whether a cell has a wall.
+fn on_wall(width: usize, spot: Spot) -> bool {
+    match spot.row % 4 {
+        1 => spot.column != 0,
+        3 => spot.column != width.saturating_sub(1),
+        _ => false,
     }
 }
 
-// Lays a row: the state after it.
-fn lay_row(width: usize, row: usize, pattern: usize, seed: u64, map: &mut [u8; MAP]) -> u64
-    requires { (width ≤ 128) × (row < 128) }
-{
-    let first = grid::times(row, grid::bytes_across(width));
-    let mut state = seed;
-    for column in 0..width {
-        let blocked = is_blocked(pattern, width, column, row, state);
-        block_if(blocked, map, first + column / 8, column);
-        state = follow(pattern, state);
+impl Pattern {
+    // Whether a cell of a floor is blocked.
+    fn blocks(self, width: usize, spot: Spot, random: Random) -> bool {
+        match self {
+            Pattern::Density(hundredths) => random.below(100) < hundredths,
+            Pattern::Walls => on_wall(width, spot),
+            Pattern::Digits(digits) => {
+                let n = ask::times(spot.row, width).saturating_add(spot.column);
+                n < 64 && digits >> n & 1 == 1
+            }
+            Pattern::Fork => !on_fork(spot),
+        }
     }
-    state
 }
 
-// Lays a floor: the state after it.
-pub fn lay(width: usize, height: usize, pattern: usize, seed: u64, map: &mut [u8; MAP]) -> u64 {
-    clear(map);
-    let across = grid::side(width);
-    let down = grid::side(height);
-    let mut state = seed;
-    for row in 0..down {
-        state = lay_row(across, row, pattern, state, map);
+// Sets the bit of a column in a byte of the map, if the map has it.
+fn block(map: &mut [u8; MAP], at: usize, column: usize) {
+    if let Some(byte) = map.get_mut(at) {
+        *byte |= 1 << (column % 8);
     }
-    state
+}
+
+// Sets the last bit of one of so many bytes of the map, for one seed in four: past the width, where the byte ends a row
+// that ends before it.
+pub fn pad_some(map: &mut [u8; MAP], bytes: usize, seed: Random) {
+    if seed.below(4) == 0 {
+        block(map, seed.next().pick(bytes), 7);
+    }
+}
+
+// Lays a row: the number after it.
+fn lay_row(
+    sides: Sides,
+    row: usize,
+    pattern: Pattern,
+    seed: Random,
+    map: &mut [u8; MAP],
+) -> Random {
+    let mut random = seed;
+    for column in 0..sides.width {
+        let spot = Spot { column, row };
+        if pattern.blocks(sides.width, spot, random) {
+            block(map, sides.byte_of(spot), column);
+        }
+        random = random.next();
+    }
+    random
+}
+
+// Lays a floor, whose sides are 0 where they are above 128: the number after it.
+pub fn lay(sides: Sides, pattern: Pattern, seed: Random, map: &mut [u8; MAP]) -> Random {
+    let sides = sides.within_limits();
+    let mut random = seed;
+    map.fill(0);
+    for row in 0..sides.height {
+        random = lay_row(sides, row, pattern, random, map);
+    }
+    random
 }

@@ -1,89 +1,154 @@
 // What is asked, and what is said to it, in one form for every call.
+ghost use Rattle.std.specs.Prelude.{◌≤◌};
 
-// The kinds of calls: accepting a floor, the room around a cell, comparing two lengths, speaking a distance, filling a table, checking one,
-// finding a route, and reading one from a table.
-pub const FLOORS: usize = 0;
+// How many bytes a map has room for, how many entries a table, and how many bytes a buffer of legs.
+pub const MAP: usize = 2100;
 
-pub const ROOMS: usize = 1;
+pub const ENTRIES: usize = 16400;
 
-pub const COMPARISONS: usize = 2;
+pub const ROOM: usize = 33000;
 
-pub const DISTANCES: usize = 3;
+// The kinds of calls: accepting a floor, the room around a cell, comparing two lengths, speaking a distance, filling a
+// table, checking one, finding a route, and reading one from a table.
+#[derive(Clone, Copy, PartialEq, Eq)]
+pub enum Kind {
+    Floors,
+    Rooms,
+    Comparisons,
+    Distances,
+    Tables,
+    Checks,
+    FoundRoutes,
+    ReadRoutes,
+}
 
-pub const TABLES: usize = 4;
+impl Kind {
+    // Every kind, in the order in which they are counted.
+    pub const ALL: [Kind; 8] = [
+        Kind::Floors,
+        Kind::Rooms,
+        Kind::Comparisons,
+        Kind::Distances,
+        Kind::Tables,
+        Kind::Checks,
+        Kind::FoundRoutes,
+        Kind::ReadRoutes,
+    ];
 
-pub const CHECKS: usize = 5;
+    // Whether a kind of call has a start.
+    pub fn has_start(self) -> bool {
+        matches!(self, Kind::Rooms | Kind::FoundRoutes | Kind::ReadRoutes)
+    }
 
-pub const FOUND_ROUTES: usize = 6;
+    // Whether a kind of call has a goal and a table.
+    pub fn has_goal(self) -> bool {
+        matches!(
+            self,
+            Kind::Tables | Kind::Checks | Kind::FoundRoutes | Kind::ReadRoutes
+        )
+    }
+}
 
-pub const READ_ROUTES: usize = 7;
+// A product of two numbers up to 130; 0 if one is above.
+pub fn times(one: usize, other: usize) -> usize
+    ensures { result ≤ 16900 }
+{
+    if 130 < one || 130 < other {
+        return 0;
+    }
+    one * other
+}
 
-// How many kinds of calls there are.
-pub const CALLS: usize = 8;
-
-// A call: its kind, the line of the counts that it goes into, and its numbers, of which a kind takes some. It is made over so many bytes of
-// the map, entries of a table, and bytes of room for legs. A room is asked for around the start. A fault is planted in what the library says
-// or leaves (1 and more), or nowhere (0).
-#[derive(Clone, Copy)]
-pub struct Call {
-    pub kind: usize,
-    pub line: usize,
-    pub plant: usize,
+// The width and the height of a floor, which may be any.
+#[derive(Clone, Copy, PartialEq, Eq)]
+pub struct Sides {
     pub width: usize,
     pub height: usize,
+}
+
+impl Sides {
+    // The sides, but 0 for one that is above its limit, 128.
+    pub fn within_limits(self) -> Sides
+        ensures { (result.width ≤ 128) × (result.height ≤ 128) }
+    {
+        Sides {
+            width: if self.width <= 128 { self.width } else { 0 },
+            height: if self.height <= 128 { self.height } else { 0 },
+        }
+    }
+
+    // How many cells a floor has; 0 if a side is above 130.
+    pub fn cells(self) -> usize
+        ensures { result ≤ 16900 }
+    {
+        times(self.height, self.width)
+    }
+
+    // How many bytes a row of the map takes.
+    pub fn bytes_across(self) -> usize {
+        self.width.div_ceil(8)
+    }
+
+    // Which byte of the map has the bit of a spot.
+    pub fn byte_of(self, spot: Spot) -> usize {
+        times(spot.row, self.bytes_across()) + spot.column / 8
+    }
+
+    // How many bytes the map takes; 0 if it has more than 130 rows or bytes to a row.
+    pub fn bytes(self) -> usize
+        ensures { result ≤ 16900 }
+    {
+        times(self.height, self.bytes_across())
+    }
+}
+
+// A place on a floor or off it.
+#[derive(Clone, Copy, PartialEq, Eq)]
+pub struct Spot {
+    pub column: usize,
+    pub row: usize,
+}
+
+// So many straight steps, and so many diagonal ones.
+#[derive(Clone, Copy, PartialEq, Eq)]
+pub struct Length {
+    pub straight: u32,
+    pub diagonal: u32,
+}
+
+// A call: its kind and its numbers, of which a kind takes some. It is made over so many bytes of the map, entries of a
+// table, and bytes of room for legs. A room is asked for around the start. A distance is that of the length, in cells
+// of the size; a comparison is of the length with the other one.
+#[derive(Clone, Copy)]
+pub struct Call {
+    pub kind: Kind,
+    pub sides: Sides,
     pub bytes: usize,
     pub entries: usize,
     pub room: usize,
-    pub from_column: usize,
-    pub from_row: usize,
-    pub column: usize,
-    pub row: usize,
+    pub start: Spot,
+    pub goal: Spot,
     pub size: u32,
-    pub straight: u32,
-    pub diagonal: u32,
-    pub other_straight: u32,
-    pub other_diagonal: u32,
+    pub length: Length,
+    pub other: Length,
 }
 
 // How many values an answer has room for.
-pub const VALUES: usize = 6;
+pub const VALUES: usize = 4;
 
-// What a call said: the number given back, and the values that come with it, else 0.
-#[derive(Clone, Copy)]
-pub struct Said {
+// A refusal: its number, and its place, which is 0 where it has none.
+#[derive(Clone, Copy, PartialEq, Eq)]
+pub struct Refused {
     pub number: usize,
-    pub values: [usize; VALUES],
+    pub place: usize,
 }
 
-// A refusal, with its place.
-pub fn refused(number: usize, place: usize) -> Said {
-    let mut values = [0usize; VALUES];
-    values[0] = place;
-    Said { number, values }
-}
-
-// Number 0, with values.
-pub fn gives(first: usize, second: usize, third: usize, fourth: usize) -> Said {
-    let mut values = [0usize; VALUES];
-    values[0] = first;
-    values[1] = second;
-    values[2] = third;
-    values[3] = fourth;
-    Said { number: 0, values }
-}
-
-// Whether a kind of call has a start.
-pub fn has_start(kind: usize) -> bool {
-    match kind {
-        ROOMS | FOUND_ROUTES | READ_ROUTES => true,
-        _ => false,
+impl Refused {
+    // A refusal with no place.
+    pub fn numbered(number: usize) -> Refused {
+        Refused { number, place: 0 }
     }
 }
 
-// Whether a kind of call has a goal and a table.
-pub fn has_goal(kind: usize) -> bool {
-    match kind {
-        TABLES | CHECKS | FOUND_ROUTES | READ_ROUTES => true,
-        _ => false,
-    }
-}
+// What a call said: the values that it gives, those that it has none for being 0, or a refusal.
+pub type Said = Result<[usize; VALUES], Refused>;

@@ -1,79 +1,56 @@
-// Refusals 1 to 8, in their order: the number of the first that holds, else 0.
-use crate::ask::Call;
-use crate::grid::MAP;
-use crate::{ask, grid};
+// Refusals 1 to 8, in their order.
+use crate::ask::{Call, MAP, Refused, Sides, Spot};
+use crate::grid;
+use crate::grid::Floor;
+
+// A refusal, if it is so.
+fn refuse_if(so: bool, number: usize) -> Result<(), Refused> {
+    if so {
+        return Err(Refused::numbered(number));
+    }
+    Ok(())
+}
 
 // Whether a bit past the width is set in a row of the map.
-fn spills(call: Call, map: &[u8; MAP], row: usize) -> bool {
-    let width = call.width;
-    let last = grid::byte_at(map, width, width, row);
-    last >> (width % 8) != 0
+fn spills(map: &[u8; MAP], sides: Sides, row: usize) -> bool {
+    let column = sides.width;
+    grid::byte_at(map, sides, Spot { column, row }) >> (column % 8) != 0
 }
 
 // Whether a bit past the width is set.
-fn is_spilt(call: Call, map: &[u8; MAP]) -> bool {
-    if call.width % 8 == 0 {
-        return false;
-    }
-    for row in 0..call.height {
-        if spills(call, map, row) {
-            return true;
-        }
-    }
-    false
-}
-
-// Whether a width or a height is out of its limits.
-fn is_unfit(side: usize) -> bool {
-    side < 1 || 128 < side
+fn is_spilt(map: &[u8; MAP], sides: Sides) -> bool {
+    sides.width % 8 != 0 && (0..sides.height).any(|row| spills(map, sides, row))
 }
 
 // Accepting a floor: 1, 2, 3.
-fn of_floor(call: Call, map: &[u8; MAP]) -> usize {
-    if is_unfit(call.width) || is_unfit(call.height) {
-        return 1;
-    }
-    if call.bytes != grid::times(call.height, grid::bytes_across(call.width)) {
-        return 2;
-    }
-    if is_spilt(call, map) {
-        return 3;
-    }
-    0
+fn of_floor(call: Call, map: &[u8; MAP]) -> Result<Floor, Refused> {
+    let sides = call.sides;
+    let floor = Floor::new(sides).ok_or(Refused::numbered(1))?;
+    refuse_if(call.bytes != sides.bytes(), 2)?;
+    refuse_if(is_spilt(map, sides), 3)?;
+    Ok(floor)
 }
 
-// Whether a place is off the floor.
-fn is_off(call: Call, column: usize, row: usize) -> bool {
-    call.width <= column || call.height <= row
+// Whether a spot is off the floor.
+fn is_off(sides: Sides, spot: Spot) -> bool {
+    sides.width <= spot.column || sides.height <= spot.row
 }
 
 // The table's length and the places of a call: 4 to 8.
-fn of_places(call: Call, map: &[u8; MAP]) -> usize {
-    let start = ask::has_start(call.kind);
-    let goal = ask::has_goal(call.kind);
-    if goal && call.entries != grid::times(call.height, call.width) {
-        return 4;
-    }
-    if start && is_off(call, call.from_column, call.from_row) {
-        return 5;
-    }
-    if goal && is_off(call, call.column, call.row) {
-        return 6;
-    }
-    if start && grid::is_set(map, call.width, call.from_column, call.from_row) {
-        return 7;
-    }
-    if goal && grid::is_set(map, call.width, call.column, call.row) {
-        return 8;
-    }
-    0
+fn of_places(call: Call, map: &[u8; MAP]) -> Result<(), Refused> {
+    let sides = call.sides;
+    let has_start = call.kind.has_start();
+    let has_goal = call.kind.has_goal();
+    refuse_if(has_goal && call.entries != sides.cells(), 4)?;
+    refuse_if(has_start && is_off(sides, call.start), 5)?;
+    refuse_if(has_goal && is_off(sides, call.goal), 6)?;
+    refuse_if(has_start && grid::is_set(map, sides, call.start), 7)?;
+    refuse_if(has_goal && grid::is_set(map, sides, call.goal), 8)
 }
 
-// A call on a floor.
-pub fn of_call(call: Call, map: &[u8; MAP]) -> usize {
-    let fault = of_floor(call, map);
-    if fault != 0 {
-        return fault;
-    }
-    of_places(call, map)
+// A call on a floor: its floor; 1 to 8.
+pub fn of_call(call: Call, map: &[u8; MAP]) -> Result<Floor, Refused> {
+    let floor = of_floor(call, map)?;
+    of_places(call, map)?;
+    Ok(floor)
 }

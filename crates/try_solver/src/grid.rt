@@ -1,219 +1,254 @@
-// A floor laid out on a grid, with blocked places all around it: width + 2 places to a row, which is the stride. A cell and its eight
-// neighbours are nine places, numbered 0 to 8 row by row; the first of them is the cell's corner, the fifth is the cell.
-//
-// The memory is one array of words: three grids (which places are open, 1, else 0; the lengths to the goal; the lengths from the start), the
-// corner of each cell, the corners in the order of a sweep (each row there and back), the legs as they are found, then what a call leaves: its
-// table and its legs. From OWN on it is the caller's.
-ghost use Rattle.std.specs.Prelude.{◌+◌, ◌≤◌, ◌<◌};
+// A floor laid out on a grid of 130 places to a row, with blocked places all around it. A cell and its eight neighbours
+// are nine places, three to a row: the first of them is the cell's corner, the middle one is the cell.
+ghost use Rattle.std.specs.Prelude.{◌+◌, ◌*◌, ◌≤◌, ◌<◌};
 
-use crate::ask::Call;
-use crate::sizes;
+use crate::ask::{MAP, Sides, Spot};
+use crate::sizes::Steps;
 
-pub const MAP: usize = 2100;
+// The byte of a spot's column in a row of the map; past its end, all blocked.
+pub fn byte_at(map: &[u8; MAP], sides: Sides, spot: Spot) -> u8 {
+    map.get(sides.byte_of(spot)).copied().unwrap_or(255)
+}
 
-pub const OPEN: usize = 0;
+// Whether the bit of a spot is set in the map.
+pub fn is_set(map: &[u8; MAP], sides: Sides, spot: Spot) -> bool {
+    byte_at(map, sides, spot) >> (spot.column % 8) & 1 == 1
+}
 
-pub const AHEAD: usize = 17200;
+// The headings, in the order in which they are tried.
+#[derive(Clone, Copy, PartialEq, Eq)]
+pub enum Heading {
+    North,
+    NorthEast,
+    East,
+    SouthEast,
+    South,
+    SouthWest,
+    West,
+    NorthWest,
+}
 
-pub const BEHIND: usize = 34400;
+impl Heading {
+    pub const ALL: [Heading; 8] = [
+        Heading::North,
+        Heading::NorthEast,
+        Heading::East,
+        Heading::SouthEast,
+        Heading::South,
+        Heading::SouthWest,
+        Heading::West,
+        Heading::NorthWest,
+    ];
 
-pub const CORNERS: usize = 51600;
-
-pub const SWEEP: usize = 68700;
-
-pub const DRAFT: usize = 102900;
-
-pub const TABLE: usize = 136000;
-
-pub const LEGS: usize = 153000;
-
-pub const OWN: usize = 186000;
-
-pub const WORDS: usize = 204000;
-
-// A product of two numbers up to 130; 0 if one is above.
-pub fn times(one: usize, other: usize) -> usize
-    ensures { result ≤ 16900 }
-{
-    if 130 < one {
-        return 0;
+    // How far to the right of the corner the head of a step lies.
+    fn right(self) -> usize
+        ensures { result ≤ 2 }
+    {
+        match self {
+            Heading::NorthWest | Heading::West | Heading::SouthWest => 0,
+            Heading::North | Heading::South => 1,
+            Heading::NorthEast | Heading::East | Heading::SouthEast => 2,
+        }
     }
-    if 130 < other {
-        return 0;
+
+    // How far down from the corner the head of a step lies.
+    fn down(self) -> usize
+        ensures { result ≤ 2 }
+    {
+        match self {
+            Heading::NorthWest | Heading::North | Heading::NorthEast => 0,
+            Heading::West | Heading::East => 1,
+            Heading::SouthWest | Heading::South | Heading::SouthEast => 2,
+        }
     }
-    one * other
-}
 
-// How many bytes a row of the map takes.
-pub fn bytes_across(width: usize) -> usize {
-    if width % 8 == 0 {
-        return width / 8;
-    }
-    width / 8 + 1
-}
-
-// The byte of a column in a row of the map; past its end, all blocked.
-pub fn byte_at(map: &[u8; MAP], width: usize, column: usize, row: usize) -> u8 {
-    let at = times(row, bytes_across(width)) + column / 8;
-    if at < MAP {
-        return map[at];
-    }
-    255
-}
-
-// Whether the bit of a column is set in a row of the map.
-pub fn is_set(map: &[u8; MAP], width: usize, column: usize, row: usize) -> bool {
-    byte_at(map, width, column, row) >> (column % 8) & 1 == 1
-}
-
-// A width or a height; 0 if it is above its limit.
-pub fn side(n: usize) -> usize
-    ensures { result ≤ 128 }
-{
-    if 128 < n {
-        return 0;
-    }
-    n
-}
-
-// The stride of a floor's grid.
-pub fn stride_of(call: Call) -> usize
-    ensures { result ≤ 130 }
-{
-    side(call.width) + 2
-}
-
-// How many cells a floor has.
-pub fn cells_of(call: Call) -> usize
-    ensures { result ≤ 16900 }
-{
-    times(call.height, call.width)
-}
-
-// The corner of a cell.
-pub fn corner_of(call: Call, column: usize, row: usize) -> usize
-    ensures { result ≤ 17030 }
-{
-    times(row, stride_of(call)) + column % 130
-}
-
-// Writes a value into so many words.
-pub fn fill_words(words: &mut [u32; WORDS], from: usize, count: usize, value: u32)
-    requires { from + count ≤ 204000 }
-{
-    for i in 0..count {
-        words[from + i] = value;
+    // The length of a step.
+    pub fn step(self) -> Steps {
+        match self {
+            Heading::North | Heading::East | Heading::South | Heading::West => Steps::STRAIGHT,
+            _ => Steps::DIAGONAL,
+        }
     }
 }
 
-// Lays a cell out.
-fn lay_cell(map: &[u8; MAP], width: usize, column: usize, row: usize, words: &mut [u32; WORDS])
-    requires { (column < width) × (width ≤ 128) }
-{
-    let first = times(row, width);
-    let corner = times(row, width + 2) + column;
-    words[CORNERS + first + column] = corner as u32;
-    words[SWEEP + 2 * first + column] = corner as u32;
-    words[SWEEP + 2 * first + 2 * width - 1 - column] = corner as u32;
-    words[OPEN + corner + width + 3] = !is_set(map, width, column, row) as u32;
+// How many places a row of the grid has, and how many the grid.
+const STRIDE: usize = 130;
+
+const PLACES: usize = STRIDE * STRIDE;
+
+// A place of the grid.
+#[derive(Clone, Copy)]
+pub struct Place {
+    n: usize,
+    ghost on_grid: { n < 16900 },
 }
 
-// Lays a row out.
-fn lay_row(map: &[u8; MAP], width: usize, row: usize, words: &mut [u32; WORDS])
-    requires { width ≤ 128 }
-{
-    for column in 0..width {
-        lay_cell(map, width, column, row, words);
+// A cell, by its corner.
+#[derive(Clone, Copy, PartialEq, Eq)]
+pub struct Cell {
+    corner: usize,
+    ghost on_grid: { corner ≤ 16637 },
+}
+
+impl Cell {
+    // The cell of a column and a row, which are below 128.
+    pub fn new(column: usize, row: usize) -> Cell {
+        Cell {
+            corner: row % 128 * STRIDE + column % 128,
+        }
+    }
+
+    // The cell of a spot on a floor.
+    pub fn at(spot: Spot) -> Cell {
+        Cell::new(spot.column, spot.row)
+    }
+
+    // The place so far to the right of the corner and down.
+    fn place_at(self, right: usize, down: usize) -> Place
+        requires { (right ≤ 2) × (down ≤ 2) }
+    {
+        Place {
+            n: self.corner + down * STRIDE + right,
+        }
+    }
+
+    // The cell's own place.
+    pub fn place(self) -> Place {
+        self.place_at(1, 1)
+    }
+
+    // The place of the head of a step.
+    pub fn head(self, heading: Heading) -> Place {
+        self.place_at(heading.right(), heading.down())
+    }
+
+    // The cell to which a step leads; the same cell at the grid's edge, where none leads.
+    pub fn next(self, heading: Heading) -> Cell {
+        match self.head(heading).n.checked_sub(STRIDE + 1) {
+            Some(corner) if corner <= 16637 => Cell { corner },
+            _ => self,
+        }
     }
 }
 
-// Lays a floor out, with no lengths.
-pub fn lay(call: Call, map: &[u8; MAP], words: &mut [u32; WORDS]) {
-    let width = side(call.width);
-    let height = side(call.height);
-    let places = times(width + 2, height + 2);
-    fill_words(words, OPEN, places, 0);
-    fill_words(words, AHEAD, places, sizes::NONE);
-    fill_words(words, BEHIND, places, sizes::NONE);
-    for row in 0..height {
-        lay_row(map, width, row, words);
+// The most cells of a floor: a way has fewer steps.
+pub const CELLS: usize = 16384;
+
+// The sides of a floor that is accepted.
+#[derive(Clone, Copy)]
+pub struct Floor {
+    pub sides: Sides,
+    ghost fits: { (0 < sides.width) × (sides.width ≤ 128) × (sides.height ≤ 128) },
+}
+
+impl Floor {
+    // A floor of one cell.
+    const LEAST: Floor = Floor {
+        sides: Sides {
+            width: 1,
+            height: 1,
+        },
+    };
+
+    // Sides from 1 to 128.
+    pub fn new(sides: Sides) -> Option<Floor> {
+        let Sides { width, height } = sides;
+        if width < 1 || 128 < width || height < 1 || 128 < height {
+            return None;
+        }
+        Some(Floor { sides })
+    }
+
+    // How many cells the floor has.
+    pub fn cells(self) -> usize
+        ensures { result ≤ 16384 }
+    {
+        self.sides.width * self.sides.height
+    }
+
+    // The n-th cell of the floor.
+    pub fn cell(self, n: usize) -> Cell {
+        Cell::new(n % self.sides.width, n / self.sides.width)
     }
 }
 
-// How far the k-th of the nine lies past the corner.
-pub fn past(stride: usize, k: usize) -> usize
-    requires { (stride ≤ 130) × (k < 9) }
-    ensures { result ≤ 262 }
-{
-    down(stride, k) + k % 3
+// A value for each place of the grid.
+#[derive(Drop)]
+pub struct Board<T> {
+    values: [T; PLACES],
 }
 
-// How far the row of the k-th of the nine lies past the corner's.
-fn down(stride: usize, k: usize) -> usize
-    requires { stride ≤ 130 }
-    ensures { result ≤ 260 }
-{
-    if k < 3 {
-        return 0;
+impl<T: Copy> Board<T> {
+    // The same value everywhere.
+    pub fn new(value: T) -> Board<T> {
+        Board {
+            values: [value; PLACES],
+        }
     }
-    if k < 6 {
-        return stride;
+
+    // Sets the places in a floor's rows and in those before and after them.
+    pub fn clear(&mut self, floor: Floor, value: T) {
+        for place in &mut self.values[..(floor.sides.height + 2) * STRIDE] {
+            *place = value;
+        }
     }
-    2 * stride
-}
 
-// A word of the memory.
-pub fn word(words: &[u32; WORDS], at: usize) -> u32
-    requires { at < 204000 }
-{
-    words[at]
-}
-
-// A corner that was laid down: of a cell, or in the order of a sweep.
-pub fn corner_at(words: &[u32; WORDS], at: usize) -> usize
-    requires { at < 136000 }
-    ensures { result ≤ 17030 }
-{
-    let corner = word(words, at);
-    if corner <= 17030 {
-        return corner as usize;
+    // The value of a place.
+    pub fn at(&self, place: Place) -> T {
+        self.values[place.n]
     }
-    0
-}
 
-// Whether the cell of a corner is open.
-pub fn is_open(words: &[u32; WORDS], corner: usize, stride: usize) -> bool
-    requires { (corner ≤ 17030) × (stride ≤ 130) }
-{
-    word(words, OPEN + corner + stride + 1) == 1
-}
-
-// Whether a step to the k-th of the nine is a diagonal one.
-fn is_diagonal(k: usize) -> bool {
-    k % 2 == 0
-}
-
-// A step to the k-th of the nine, as a packed length.
-pub fn step_of(k: usize) -> u32
-    ensures { result ≤ 32768 }
-{
-    if is_diagonal(k) {
-        return 32768;
+    // Sets the value of a place.
+    pub fn set(&mut self, place: Place, value: T) {
+        self.values[place.n] = value;
     }
-    1
 }
 
-// Whether a step leads from the cell of a corner, which is open, to the k-th of the nine: a diagonal one with both places beside it open, the one
-// in the cell's own row, and the one in its own column.
-pub fn leads(words: &[u32; WORDS], corner: usize, stride: usize, k: usize) -> bool
-    requires { (corner ≤ 17030) × (stride ≤ 130) × (k < 9) }
-{
-    if k == 4 || word(words, OPEN + corner + past(stride, k)) != 1 {
-        return false;
+// A floor, and which places of the grid are open.
+#[derive(Drop)]
+pub struct Grid {
+    pub floor: Floor,
+    open: Board<bool>,
+}
+
+impl Grid {
+    // A floor of one blocked cell.
+    pub fn new() -> Grid {
+        Grid {
+            floor: Floor::LEAST,
+            open: Board::new(false),
+        }
     }
-    if !is_diagonal(k) {
-        return true;
+
+    // Lays a row out.
+    fn lay_row(&mut self, row: usize, map: &[u8; MAP]) {
+        let sides = self.floor.sides;
+        for column in 0..sides.width {
+            let spot = Spot { column, row };
+            self.open
+                .set(Cell::at(spot).place(), !is_set(map, sides, spot));
+        }
     }
-    word(words, OPEN + corner + stride + k % 3) == 1
-        && word(words, OPEN + corner + down(stride, k) + 1) == 1
+
+    // Lays a floor out.
+    pub fn lay(&mut self, floor: Floor, map: &[u8; MAP]) {
+        self.floor = floor;
+        self.open.clear(floor, false);
+        for row in 0..floor.sides.height {
+            self.lay_row(row, map);
+        }
+    }
+
+    // Whether a cell is open.
+    pub fn is_open(&self, cell: Cell) -> bool {
+        self.open.at(cell.place())
+    }
+
+    // Whether a step leads on from an open cell: its head is open, and so are the two places beside a diagonal one, in
+    // the cell's own row and in its own column. Of a straight one these are its head and the cell.
+    pub fn leads(&self, cell: Cell, heading: Heading) -> bool {
+        self.open.at(cell.head(heading))
+            && self.open.at(cell.place_at(heading.right(), 1))
+            && self.open.at(cell.place_at(1, heading.down()))
+    }
 }

@@ -1,106 +1,84 @@
-// Lengths to a cell, or from it, by sweeping over the floor until nothing changes; and filling a table with them.
-ghost use Rattle.std.specs.Prelude.{◌≤◌, ◌<◌};
+// Lengths to a cell, or from it, by sweeping over the floor until nothing changes.
+use crate::ask::ENTRIES;
+use crate::grid::{Board, CELLS, Cell, Floor, Grid, Heading};
+use crate::sizes;
+use crate::sizes::Steps;
 
-use crate::ask::{Call, Said};
-use crate::grid::WORDS;
-use crate::{ask, grid, sizes};
+// The lengths of the cells of a floor; none where there is no way.
+pub type Lengths = Board<Option<Steps>>;
 
-// As many sweeps as a way can have steps, and one that finds nothing to change.
-const ROUNDS: usize = 16384;
-
-// The length over the k-th of the nine, if it has one and a step leads there.
-fn length_over(words: &[u32; WORDS], base: usize, corner: usize, stride: usize, k: usize) -> u32
-    requires { (base ≤ 34400) × (corner ≤ 17030) × (stride ≤ 130) × (k < 9) }
-{
-    let there = grid::word(words, base + corner + grid::past(stride, k));
-    if sizes::NONE <= there {
-        return sizes::NONE;
+impl Lengths {
+    // The length over a step from an open cell, if there is one and the step leads there.
+    pub fn over(&self, grid: &Grid, cell: Cell, heading: Heading) -> Option<Steps> {
+        let there = self.at(cell.head(heading))?;
+        if grid.leads(cell, heading) {
+            return Some(there.plus(heading.step()));
+        }
+        None
     }
-    if grid::leads(words, corner, stride, k) {
-        return there + grid::step_of(k);
-    }
-    sizes::NONE
-}
 
-// The least length over the steps from the cell of a corner.
-pub fn least_over(words: &[u32; WORDS], base: usize, corner: usize, stride: usize) -> u32
-    requires { (base ≤ 34400) × (corner ≤ 17030) × (stride ≤ 130) }
-{
-    let mut least = sizes::NONE;
-    for k in 0..9 {
-        least = sizes::shorter_of(least, length_over(words, base, corner, stride, k));
+    // The least length over the steps from an open cell.
+    pub fn least_over(&self, grid: &Grid, cell: Cell) -> Option<Steps> {
+        Heading::ALL
+            .iter()
+            .filter_map(|heading| self.over(grid, cell, *heading))
+            .min_by_key(|length| length.size())
     }
-    least
-}
 
-// Shortens the length of the cell of a corner, if it is open and a step from it makes it shorter: whether one does.
-fn shorten(words: &mut [u32; WORDS], base: usize, corner: usize, stride: usize) -> bool
-    requires { (base ≤ 34400) × (corner ≤ 17030) × (stride ≤ 130) }
-{
-    if !grid::is_open(words, corner, stride) {
-        return false;
-    }
-    let least = least_over(words, base, corner, stride);
-    if sizes::is_shorter(least, grid::word(words, base + corner + stride + 1)) {
-        words[base + corner + stride + 1] = least;
-        return true;
-    }
-    false
-}
-
-// The i-th corner of a sweep from the first row to the last, or from the last to the first.
-fn swept(words: &[u32; WORDS], i: usize, count: usize, back: bool) -> usize
-    requires { (i < count) × (count ≤ 33800) }
-    ensures { result ≤ 17030 }
-{
-    if back {
-        return grid::corner_at(words, grid::SWEEP + count - 1 - i);
-    }
-    grid::corner_at(words, grid::SWEEP + i)
-}
-
-// Sweeps over the floor, over each row there and back: whether anything changed.
-fn sweep(words: &mut [u32; WORDS], base: usize, count: usize, stride: usize, back: bool) -> bool
-    requires { (base ≤ 34400) × (count ≤ 33800) × (stride ≤ 130) }
-{
-    let mut changed = false;
-    for i in 0..count {
-        let corner = swept(words, i, count, back);
-        if shorten(words, base, corner, stride) {
-            changed = true;
+    // Shortens the length of a cell, if it is open and a step from it makes it shorter: whether one does.
+    fn shorten(&mut self, grid: &Grid, cell: Cell) -> bool {
+        if !grid.is_open(cell) {
+            return false;
+        }
+        match (self.least_over(grid, cell), self.at(cell.place())) {
+            (None, _) => false,
+            (Some(least), Some(length)) if !least.is_shorter(length) => false,
+            (least, _) => {
+                self.set(cell.place(), least);
+                true
+            }
         }
     }
-    changed
-}
 
-// The lengths to a cell, which are those from it, on a grid with no lengths.
-pub fn spread(call: Call, words: &mut [u32; WORDS], base: usize, column: usize, row: usize)
-    requires { base ≤ 34400 }
-{
-    let stride = grid::stride_of(call);
-    let count = 2 * grid::cells_of(call);
-    words[base + grid::corner_of(call, column, row) + stride + 1] = 0;
-    for i in 0..ROUNDS {
-        if !sweep(words, base, count, stride, i % 2 == 1) {
-            return;
+    // Sweeps over a row there and back: whether anything changed.
+    fn sweep_row(&mut self, grid: &Grid, row: usize) -> bool {
+        let width = grid.floor.sides.width;
+        let mut changed = false;
+        for column in (0..width).chain((0..width).rev()) {
+            changed |= self.shorten(grid, Cell::new(column, row));
+        }
+        changed
+    }
+
+    // Sweeps over the floor from the first row to the last, or from the last to the first: whether anything changed.
+    // Tried as one sweep there and back, with no flag: it took a quarter longer.
+    fn sweep(&mut self, grid: &Grid, back: bool) -> bool {
+        let height = grid.floor.sides.height;
+        let mut changed = false;
+        for i in 0..height {
+            let row = if back { height - 1 - i } else { i };
+            changed |= self.sweep_row(grid, row);
+        }
+        changed
+    }
+
+    // Finds the lengths to a cell, which are those from it, by as many sweeps as a way can have steps, and one that
+    // finds nothing to change.
+    pub fn spread(&mut self, grid: &Grid, cell: Cell) {
+        self.clear(grid.floor, None);
+        self.set(cell.place(), Some(Steps::ZERO));
+        for i in 0..CELLS {
+            if !self.sweep(grid, i % 2 == 1) {
+                return;
+            }
         }
     }
-}
 
-// Writes the lengths to the goal into the table.
-fn write_table(words: &mut [u32; WORDS], cells: usize, stride: usize)
-    requires { (cells ≤ 16900) × (stride ≤ 130) }
-{
-    for cell in 0..cells {
-        let corner = grid::corner_at(words, grid::CORNERS + cell);
-        let length = grid::word(words, grid::AHEAD + corner + stride + 1);
-        words[grid::TABLE + cell] = sizes::entry_of(length);
+    // Writes the lengths of a floor's cells into a table.
+    pub fn write(&self, floor: Floor, table: &mut [u32; ENTRIES]) {
+        let entries = &mut table[..floor.cells()];
+        for (n, entry) in entries.iter_mut().enumerate() {
+            *entry = sizes::entry_of(self.at(floor.cell(n).place()));
+        }
     }
-}
-
-// Filling a table.
-pub fn fill(call: Call, words: &mut [u32; WORDS]) -> Said {
-    spread(call, words, grid::AHEAD, call.column, call.row);
-    write_table(words, grid::cells_of(call), grid::stride_of(call));
-    ask::gives(0, 0, 0, 0)
 }

@@ -13,10 +13,7 @@ fn run(rt: &HostRuntime, path: &str) -> io::Result<()> {
         Err(error) => return eprintln!(rt; "{path}: {error}"),
     };
     println!(rt; "{path}")?;
-    let mut input = [0u8; 4097];
-    let read = print_out::read_full(&mut file, &mut input)?;
-    let mut out = [0u8; 262144];
-    print_out::print_all(&mut rt.stdout(), &input[..read], &mut out)
+    print_out::run(&mut file, &mut rt.stdout())
 }
 
 fn main(rt: HostRuntime) -> io::Result<()> {

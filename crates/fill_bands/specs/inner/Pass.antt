@@ -2,21 +2,14 @@
 -- band's end are ready: they take their steps, and the others wait. The first ones, q[mid..fresh], waited in the band
 -- before, and are all ready; of the fresh ones, q[fresh..t], the ready ones are brought before the others.
 use Rattle.std.specs.Prelude.{◌≡◌, List, ℕ, ◌+◌, ◌≤◌, ◌<◌, get_or, length}
-use Rattle.fill_steps.specs.inner.Work.{largest, span, highest, stepped, at, WorkStep}
+use Rattle.fill_steps.specs.inner.Work.{span, highest, stepped, at, WorkStep}
 use Rattle.fill_steps.specs.inner.Band.{Band, Listed, Reached, Underway, Falls}
 use Rattle.fill_steps.specs.inner.Taken.{This}
 
--- c is a place of the work array, which is small
-pub record Place (x : List ℕ) (c : ℕ) : Type 0 where
-  pub few : length x ≤ largest
-  pub cell : c < length x
-
--- q[mid..t] are places of the work array, and the queue is small
+-- q[mid..t] are places of the work array
 pub record Places (x q : List ℕ) (mid t : ℕ) : Type 0 where
-  pub narrow : length q ≤ largest
   pub order : mid ≤ t
-  pub fits : t ≤ length q
-  pub cells : (k : ℕ) → mid ≤ k → k < t → Place x (get_or q k 0)
+  pub cells : (k : ℕ) → mid ≤ k → k < t → get_or q k 0 < length x
 
 -- the cells q[mid..t] stand in another order: those below limit up to top, and the others from there on
 pub record Parted (x : List ℕ) (limit mid t : ℕ) (q q' : List ℕ) (top : ℕ) : Type 0 where
@@ -29,6 +22,13 @@ pub record Parted (x : List ℕ) (limit mid t : ℕ) (q q' : List ℕ) (top : �
   -- what stands before them or behind them stays
   pub head : (k : ℕ) → k < mid → get_or q' k 0 ≡ get_or q k 0
   pub rest : (k : ℕ) → t ≤ k → get_or q' k 0 ≡ get_or q k 0
+
+-- of a wave the cells q[fresh..t] do
+pub record FreshParted (fresh limit top t : ℕ) (x q x' q' : List ℕ) (t' : ℕ) : Type 0 where
+  pub cells : x' ≡ x
+  pub size : length q' ≡ length q
+  pub end : t' ≡ t
+  pub parted : Parted x limit fresh t q q' top
 
 -- the cells q[mid..top] are the band's, and the queue ends where it did when the band began
 pub record StepsReady (w : Band) (x q : List ℕ) (mid top t : ℕ) : Type 0 where
@@ -86,6 +86,6 @@ pub record PassDone (w : Band) (mid top : ℕ) (x q x' q' : List ℕ) (t' : ℕ)
   -- if a cell has taken its steps, fewer wait than there were
   pub fewer : (k : ℕ) → mid ≤ k → k < w.end → at x (get_or q k 0) < w.limit → mid < top
 
-pub record PassLeft (mid fresh t limit : ℕ) (x q x' q' : List ℕ) (top t' : ℕ) : Type 0 where
+pub record PassLeft (mid fresh limit top t : ℕ) (x q x' q' : List ℕ) (t' : ℕ) : Type 0 where
   pub order : top ≤ t
   pub keeps : (w : Band) → w.limit ≡ limit → PassReady w x q mid fresh t → PassDone w mid top x q x' q' t'

@@ -43,5 +43,5 @@ abbrev pub goal_band : List ℕ → Band
 goal_band x = record { floor = x; before = x; end = 0; limit = 2 * span }
 
 -- all of the goal's places have taken their steps
-abbrev pub GoalsDone : (goals x q x' q' : List ℕ) (t : ℕ) → Type 0
-GoalsDone goals x = StepsDone (goal_band x) goals 0 (length goals) x
+abbrev pub GoalsDone : (goals : List ℕ) (t : ℕ) (x q x' q' : List ℕ) (t' : ℕ) → Type 0
+GoalsDone goals t x = StepsDone (goal_band x) goals 0 (length goals) x

@@ -4,11 +4,12 @@ use Rattle.std.specs.Prelude.{◌≡◌, ℕ, ◌+◌, ◌-◌, ◌/◌, ◌<◌
 use Rattle.fill_steps.specs.inner.Work.{unreached, span, stepped, highest, at, target, WorkStep, QueueRoom}
 use Rattle.fill_steps.specs.inner.Band.{Band, Underway, Falls}
 
--- place a, which had the number v, has c if that is less, and stands behind the queue
-pub record Lowered (a c t : ℕ) (x q x' q' : List ℕ) (v : ℕ) : Type 0 where
+-- place a, which had the number v, has c if that is less, and stands behind the queue, whose end stays
+pub record Lowered (a c v t : ℕ) (x q x' q' : List ℕ) (t' : ℕ) : Type 0 where
   pub cells : x' ≡ slice_set x a (min c (at x a))
   pub queue : q' ≡ slice_set q t a
   pub before : v ≡ at x a
+  pub end : t' ≡ t
 
 -- place a was offered the number c: it has the lesser one now, and stands behind the queue if it waited
 pub record OfferMade (a c t : ℕ) (x q x' q' : List ℕ) (t' : ℕ) : Type 0 where
@@ -27,15 +28,14 @@ abbrev pub MaskRead : ℕ → ℕ → Type 0
 MaskRead v r = v ≤ unreached → Masks v r
 
 -- the straight step h out of p was taken, which offers cand, and r is the mask of the cell that it leads to
-pub record SideStep (p h cand t : ℕ) (x q x' q' : List ℕ) (t' r : ℕ) : Type 0 where
+pub record SideStep (p h cand r t : ℕ) (x q x' q' : List ℕ) (t' : ℕ) : Type 0 where
   pub offer : OfferMade (target p h) cand t x q x' q' t'
   pub mask : MaskRead (at x (target p h)) r
 
 -- the straight step after the diagonal heading h was taken; after 7, the last one, it is north, which was taken first
-pub record SideAfter (p h cand t north : ℕ) (x q x' q' : List ℕ) (t' r : ℕ) : Type 0 where
-  pub room : QueueRoom x' q' t'
+pub record SideAfter (p h cand north r t : ℕ) (x q x' q' : List ℕ) (t' : ℕ) : Type 0 where
   pub size : length x' ≡ length x
-  pub step : h < 7 → SideStep p (h + 1) cand t x q x' q' t' r
+  pub step : h < 7 → SideStep p (h + 1) cand r t x q x' q' t'
   pub last : h ≡ 7 → (x' ≡ x) × (q' ≡ q) × (t' ≡ t) × (r ≡ north)
 
 -- what is offered past two side cells with the masks a and b: if one is blocked, too much to count
@@ -59,5 +59,4 @@ pub record This (x : List ℕ) (limit p : ℕ) : Type 0 where
 -- every step out of p was taken, in every band that ends where numbers have room and whose cell it is
 pub record TakenLeft (p t : ℕ) (x q x' q' : List ℕ) (t' : ℕ) : Type 0 where
   pub size : length x' ≡ length x
-  pub room : QueueRoom x' q' t'
   pub keeps : (w : Band) → Underway w x q t → w.limit ≤ highest → This x w.limit p → Offered w (λ h. h < 8) p x q x' q' t'

@@ -4,4 +4,4 @@ use Rattle.print_line.proofs.centimetres_of.Goals as goal
 
 pub returns-in-Refused : goal.returns-in-Refused
 returns-in-Refused c =
-    absurd (never_silent _ _ c.requires.size_value c.requires.within c.distance_spoken.result c.distance_spoken.ensures _ c.in-Refused.is)
+    absurd (never_silent _ _ c.requires.size_inside c.requires.within c.distance_spoken.result c.distance_spoken.ensures _ c.in-Refused.is)

@@ -7,23 +7,20 @@ use Rattle.route_legs.specs.declared.Way.{Way}
 use Rattle.route.specs.declared.Answer.{Answer}
 use Rattle.route.specs.declared.Answer.TheVariants as answer
 use Rattle.print_text.specs.Text.{line}
-use Rattle.print_text.specs.Put.{Put}
+use Rattle.print_text.specs.declared.Page.{Page}
+use Rattle.print_text.specs.inner.Page.{Wrote}
 use Rattle.print_line.specs.LineRoom.{line_room}
 
--- room for a number and five fields
-abbrev pub length_room : ℕ
-length_room = 125
-
 -- a line was written, in the room for one
-pub record PutLine (old : List ℕ) (at : ℕ) (bytes new : List ℕ) (next : ℕ) : Type 0 where
-  pub put : Put old at bytes new next
-  pub fits : next ≤ at + line_room
+pub record PutLine (old : Page) (bytes : List ℕ) (new : Page) : Type 0 where
+  pub wrote : Wrote old bytes new
+  pub fits : new.at ≤ old.at + line_room
 
 -- some line that is one of these was written
-pub record Writes (Is : List ℕ → Type 0) (old : List ℕ) (at : ℕ) (new : List ℕ) (next : ℕ) : Type 0 where
+pub record Writes (Is : List ℕ → Type 0) (old new : Page) : Type 0 where
   pub bytes : List ℕ
   pub is : Is bytes
-  pub line_put : PutLine old at bytes new next
+  pub line_put : PutLine old bytes new
 
 -- a way whose line there is room for
 pub record WayFits (w : Way) (legs : List ℕ) : Type 0 where
@@ -35,10 +32,6 @@ pub record WayFits (w : Way) (legs : List ℕ) : Type 0 where
 abbrev pub Fits : Answer → List ℕ → Type 0
 Fits (answer.Way w) legs = WayFits w legs
 Fits (answer.Refused r) legs = Unit {0}
-
--- the numbers of a way's line before its legs
-abbrev pub length_numbers : ℕ → ℕ → Way → List ℕ
-length_numbers number centimetres w = number ∷ 0 ∷ w.length.straight ∷ w.length.diagonal ∷ centimetres ∷ w.legs ∷ []
 
 -- the numbers of a way's line
 abbrev pub way_numbers : ℕ → ℕ → Way → List ℕ → List ℕ

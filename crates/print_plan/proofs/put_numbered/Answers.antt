@@ -1,42 +1,26 @@
 -- `print_plan::put_numbered` meets its contract: the query is the one with this number, and its line the line with it.
 use mathlib.Core.Path.{refl}
-use native.Mathlib.Omega.{arith}
-use lib.ListN.{length-take}
-use Rattle.print_plan.proofs.HeadLines.{head_opened, query_in, map_is, size_inside, floor_sound, cells_few, numbered}
+use Rattle.print_plan.proofs.HeadLines.{head_opened, query_in, map_is, size_inside, floor_sound, numbered}
 use Rattle.print_plan.proofs.put_numbered.Goals as goal
 
 -- the plan is sound, and no refusal of it holds: head_opened c.requires.heads _ refl
 pub query_at-query-requires : goal.query_at-query-requires
 query_at-query-requires c =
-    let n = c.requires.number_nonzero in
+    let n = c.requires.number_in_plan in
     query_in _ (head_opened c.requires.heads _ refl) _ n.0 n.1
 
-pub overflow_mul-cells : goal.overflow_mul-cells
-overflow_mul-cells c = omega (arith, cells_few _ (head_opened c.requires.heads _ refl))
-
-pub slice_bounds-put_query-end-2 : goal.slice_bounds-put_query-end-2
-slice_bounds-put_query-end-2 c = omega (arith, cells_few _ (head_opened c.requires.heads _ refl), c.requires.table_len)
-
-pub slice_bounds-put_query-end-3 : goal.slice_bounds-put_query-end-3
-slice_bounds-put_query-end-3 c =
-    simp length-take (omega (arith, cells_few _ (head_opened c.requires.heads _ refl), c.requires.table_len))
-
-pub put_query-requires-clause-size_value : goal.put_query-requires-clause-size_value
-put_query-requires-clause-size_value c = size_inside _ (head_opened c.requires.heads _ refl)
+pub put_query-requires-clause-size_inside : goal.put_query-requires-clause-size_inside
+put_query-requires-clause-size_inside c = size_inside _ (head_opened c.requires.heads _ refl)
 
 pub put_query-requires-clause-sound_floor : goal.put_query-requires-clause-sound_floor
 put_query-requires-clause-sound_floor c =
     let o = head_opened c.requires.heads _ refl in
     floor_sound _ o _ (map_is _ o.taken)
 
-pub put_query-requires-clause-table_len : goal.put_query-requires-clause-table_len
-put_query-requires-clause-table_len c =
-    simp length-take (omega (arith, cells_few _ (head_opened c.requires.heads _ refl), c.requires.table_len))
-
 pub returns : goal.returns
 returns c =
     let o = head_opened c.requires.heads _ refl in
-    let n = c.requires.number_nonzero in
+    let n = c.requires.number_in_plan in
     let w = c.put_query.ensures in
     let here = numbered _ o _ n.0 n.1 _ (map_is _ o.taken) _ c.query_at-query.ensures _ w.is in
     record { bytes = w.bytes; is = here; line_put = w.line_put }

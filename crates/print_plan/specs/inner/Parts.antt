@@ -8,7 +8,8 @@ use Rattle.plan.specs.declared.Query.{Query}
 use Rattle.plan.specs.Sound.{Contents, Sound}
 use Rattle.plan.specs.Reads.{plan_of}
 use Rattle.print_text.specs.Text.{line}
-use Rattle.print_text.specs.Put.{Put}
+use Rattle.print_text.specs.declared.Page.{Page}
+use Rattle.print_text.specs.inner.Page.{Wrote}
 use Rattle.print_line.specs.LineRoom.{line_room}
 use Rattle.print_plan.specs.Query.{QueryNumbers}
 use Rattle.print_plan.specs.Lines.{map_in, plan_tests, LineAt}
@@ -25,15 +26,13 @@ pub record Taken (input : List ℕ) (p : Plan) : Type 0 where
   pub sound : Sound input contents
   pub plan : p ≡ plan_of contents
 
--- the lines from a number on up to the next one, written from the front of the buffer
-pub record Progress (input : List ℕ) (from : ℕ) (old new : List ℕ) (at next : ℕ) : Type 0 where
+-- the lines from a number on up to the next one, written from the start of a page
+pub record Progress (input : List ℕ) (from : ℕ) (start page : Page) (next : ℕ) : Type 0 where
   pub shown : List (List ℕ)
   pub are : (i : ℕ) → i < length shown → LineAt input (from + i) (get_or shown i [])
-  pub written : Put old 0 (joined shown) new at
+  pub wrote : Wrote start (joined shown) page
   pub upto : next ≡ from + length shown
-  pub room : (i : ℕ) → i < length shown → length (joined (take i shown)) + line_room ≤ length old
-  pub inside : at ≤ length old
-  pub same : length new ≡ length old
+  pub room : (i : ℕ) → i < length shown → length (joined (take i shown)) + line_room ≤ length start.out.now
 
 -- a sound plan that is not too long, and no refusal of it
 pub record Opened (input : List ℕ) (p : Plan) : Type 0 where

@@ -1,5 +1,5 @@
--- The room that the inner functions ask for.
-use Rattle.std.specs.Prelude.{ℕ}
+-- The room that a page's methods ask for.
+use Rattle.std.specs.Prelude.{ℕ, ◌-◌, ◌*◌}
 
 -- room for any number of 64 bits: it has at most 20 digits
 abbrev pub number_room : ℕ
@@ -12,3 +12,7 @@ field_room = 21
 -- room for a blank and a number of one byte
 abbrev pub byte_room : ℕ
 byte_room = 4
+
+-- room for so many numbers of 64 bits, and a blank between two
+abbrev pub numbers_room : ℕ → ℕ
+numbers_room n = field_room * n - 1

@@ -7,4 +7,4 @@ pub returns-then-steps_of-bytes : goal.returns-then-steps_of-bytes
 returns-then-steps_of-bytes c = wanted_none c.requires.few _ _ c.steps_of.ensures.0 c.if-steps_of-bytes.true
 
 pub returns : goal.returns
-returns c = wanted_all _ _ c.count_legs-way.ensures
+returns c = wanted_all _ _ c.count_legs.ensures

@@ -1,7 +1,6 @@
 -- `route_walker::Walk::leg` meets its contract: each turn is a step by the one heading, and the numbers fall, so that the
 -- run ends; where another heading comes next, the leg is whole.
-use Rattle.std.proofs.Common.{refl, sym, ap, rules, ◌∙◌}
-use Rattle.floor.specs.Lent.{floor_map}
+use Rattle.std.proofs.Common.{refl, sym, ap, ◌∙◌}
 use Rattle.steps.specs.inner.Ranking.{numbered}
 use Rattle.route_walker.specs.inner.Walkers.{taken}
 use Rattle.route_walker.proofs.Stepping.{going_leads, going_more, next_other, next_same}

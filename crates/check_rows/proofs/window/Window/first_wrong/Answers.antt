@@ -1,8 +1,7 @@
 -- The first cell of the middle row that differs meets its contract: where none differ, each is right, and else it is the
 -- first that the test finds.
 use mathlib.Core.Path.{◌≡◌, sym, ◌∙◌}
-use mathlib.Core.Bool.{true, false, true≢false}
-use Prim.Native.Nat.{ℕ}
+use mathlib.Core.Bool.{true, false}
 use Rattle.std.proofs.Common.{rules, tests}
 use Rattle.std.proofs.lemmas.Iterator.{first_from_Range}
 use Rattle.check_rows.specs.inner.Window.{differs_at}

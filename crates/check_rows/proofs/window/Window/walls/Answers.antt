@@ -1,20 +1,14 @@
 -- A window of walls meets its contract: each number is the wall's, and past the last there is none.
 use native.Mathlib.Omega.{arith}
-use native.Mathlib.Decide.{dec_le}
-use Prim.Native.Nat.{ℕ, suc, ◌+◌, ◌≤◌, ◌<◌}
-use lib.ListN.{get_or, length, replicate, length-replicate, get_or-replicate, get_or-eq_default}
+use Prim.Native.Nat.{ℕ}
+use lib.ListN.{replicate, length-replicate, get_or-replicate}
+use Rattle.std.proofs.lemmas.List.{get_or_past}
 use Rattle.check_rows.specs.inner.Level.{wall}
-use Rattle.check_rows.specs.inner.Window.{LowNumbers, Walled}
+use Rattle.check_rows.specs.inner.Window.{LowNumbers}
 use Rattle.check_rows.proofs.window.Window.walls.Goals as goal
 
 low : (n : ℕ) → LowNumbers (replicate n wall)
-low n = record { low = λ z. by z (dec_le (suc z) n) }
-  where
-    by : (z : ℕ) → Dec (z < n) → get_or (replicate n wall) z 0 ≤ wall + 1
-    by z (yes p) = omega (arith, get_or-replicate n z wall 0 p)
-    by z (no p) =
-        let past : length (replicate n wall) ≤ z = omega (arith, length-replicate n wall) in
-        omega (arith, get_or-eq_default (replicate n wall) 0 past)
+low n = record { low = λ z. grind (arith, get_or-replicate, get_or_past, length-replicate) }
 
 pub invariant_of-result : goal.invariant_of-result
 invariant_of-result c = record { low = low 390 }

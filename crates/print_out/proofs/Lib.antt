@@ -1,0 +1,2 @@
+pub mod Consumed
+pub mod Going

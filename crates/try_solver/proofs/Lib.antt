@@ -1,2 +1,0 @@
--- The laws that this crate's proofs share.
-pub mod Products

@@ -1,9 +1,0 @@
--- `try_solver::grid::lay` meets its contract: the loop counts up to its end.
-use Prim.Native.Nat.{◌-◌, ◌≤◌}
-use Rattle.try_solver.proofs.grid.lay.Given as goal
-
-abbrev pub invariant-loop-row : goal.invariant-loop-row
-invariant-loop-row l = l.row ≤ l.height
-
-abbrev pub decreases-loop-row : goal.decreases-loop-row
-decreases-loop-row l = l.height - l.row

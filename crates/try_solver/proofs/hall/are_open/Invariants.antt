@@ -1,9 +1,0 @@
--- `try_solver::hall::are_open` meets its contract: the loop counts up to its end.
-use Prim.Native.Nat.{◌-◌, ◌≤◌}
-use Rattle.try_solver.proofs.hall.are_open.Given as goal
-
-abbrev pub invariant-loop-i : goal.invariant-loop-i
-invariant-loop-i l = l.i ≤ l.count
-
-abbrev pub decreases-loop-i : goal.decreases-loop-i
-decreases-loop-i l = l.count - l.i
