@@ -1,5 +1,5 @@
 -- A work array with one place changed: how many cells wait, and the room in the queue.
-use Rattle.std.proofs.Common.{◌≡◌, ℕ, zero, suc, ◌+◌, ◌-◌, ◌/◌, ◌<◌, ◌≤◌, min, List, [], ◌∷◌, length, set, refl, ap, ◌∙◌, arith, length-set, Bool, true, false, IsTrue, ◌↔◌, ◌*◌}
+use Rattle.std.proofs.Common.{◌≡◌, ℕ, zero, suc, ◌+◌, ◌-◌, ◌/◌, ◌<◌, ◌≤◌, min, List, [], ◌∷◌, length, set, refl, ap, arith, length-set, Bool, true, false, IsTrue, ◌↔◌, ◌*◌}
 use Rattle.std.proofs.lemmas.Bool.Decides.{nat_tests}
 use mir.Val.{bool_byte}
 use native.Mathlib.Decide.{dec_le}
@@ -69,7 +69,3 @@ new_counts false r v a k l e f = by (dec_le unreached v) (dec_le unreached a)
 
 pub all_count : (v : ℕ) → v < 2 * unreached → bool_byte (leb unreached v) ≡ v / unreached
 all_count v k = grind (arith, nat_tests)
-
--- an offer leaves the array as large as it was
-pub made_size : (a c t : ℕ) (x q x' q' : List ℕ) (t' : ℕ) → OfferMade a c t x q x' q' t' → length x' ≡ length x
-made_size a c t x q x' q' t' made = ap length made.cells ∙ length-set x a _

@@ -1,5 +1,5 @@
 -- What the steps out of a cell need, and what they keep, heading after heading.
-use Rattle.std.proofs.Common.{◌≡◌, ℕ, ◌*◌, ◌<◌, ◌≤◌, List, length}
+use Rattle.std.proofs.Common.{◌≡◌, ℕ, ◌*◌, ◌<◌, ◌≤◌, List}
 use Rattle.fill_steps.specs.inner.Work.{highest, at, target}
 use Rattle.fill_steps.specs.inner.Band.{Band, Underway}
 use Rattle.fill_steps.specs.inner.Taken.{Masks, Offered, This}
@@ -19,6 +19,5 @@ pub record NorthTaken (w : Band) (x q : List ℕ) (t p v north : ℕ) : Type 0 w
 -- then a number of turns followed, each of a straight step and the diagonal one before it, and side is the mask of the
 -- cell that the last straight heading leads to
 pub record Turns (p v north side n t : ℕ) (x₀ q₀ x q : List ℕ) (t' : ℕ) : Type 0 where
-  pub size : length x ≡ length x₀
   pub keeps : (w : Band) → NorthTaken w x₀ q₀ t p v north → Offered w (λ j. (0 < j) × (j ≤ 2 * n)) p x₀ q₀ x q t'
   pub behind : (w : Band) → NorthTaken w x₀ q₀ t p v north → n < 4 → Masks (at w.floor (target p (2 * n))) side

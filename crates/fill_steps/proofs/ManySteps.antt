@@ -5,7 +5,6 @@ use native.Mathlib.Decide.{ℕ_discrete}
 use Rattle.fill_steps.specs.inner.Work.{span, stepped, at, target, WorkStep}
 use Rattle.fill_steps.specs.inner.Band.{Band, Falls}
 use Rattle.fill_steps.specs.inner.Taken.{OfferMade, Masks, SideStep, SideAfter, PastSides, Offered, TakenLeft}
-use Rattle.fill_steps.proofs.Changed.{made_size}
 use Rattle.fill_steps.proofs.Kept.{MayStep, NorthTaken, Turns}
 use Rattle.fill_steps.proofs.Numbers.{like}
 use Rattle.fill_steps.proofs.OneStep.{OfferFits, inside, one_step, straight_fits}
@@ -109,7 +108,6 @@ module _ (p v north t : ℕ) (x₀ q₀ : List ℕ) where
 
       pub headings_more : Turns p v north other (n + 1) t x₀ q₀ x'' q'' t'''
       headings_more = record {
-        size = made_size _ _ _ _ _ _ _ _ made ∙ s.size ∙ i.size;
         keeps = more_keeps;
         behind = λ w o k. subst (λ (j : ℕ). Masks (at w.floor (target p j)) other) (omega arith) (ahead w o);
       }
@@ -118,7 +116,6 @@ module _ (p v north t : ℕ) (x₀ q₀ : List ℕ) where
 pub headings_all : (p v north t straight : ℕ) (x₀ q₀ x₁ q₁ : List ℕ) (t₁ side n : ℕ) (x q : List ℕ) (t' : ℕ) → at x₀ p ≡ v → straight ≡ v + span
     → SideStep p 0 straight north t x₀ q₀ x₁ q₁ t₁ → Turns p v north side n t₁ x₁ q₁ x q t' → 4 ≤ n → TakenLeft p t x₀ q₀ x q t'
 headings_all p v north t straight x₀ q₀ x₁ q₁ t₁ side n x q t' e sum first i b = record {
-  size = i.size ∙ made_size _ _ _ _ _ _ _ _ first.offer;
   keeps = λ w g small cell. keeps w (record { going = g; small = small; cell = cell });
 }
   where

@@ -6,7 +6,7 @@ use Rattle.fill_bands.proofs.NextBand.{grows, next}
 use Rattle.fill_bands.proofs.all_bands.Goals as goal
 
 pub loop-mid-init : goal.loop-mid-init
-loop-mid-init c = record { work = refl; queue = refl; did = record { between = λ x q l g s. begin x q l _ g _ _ _ s } }
+loop-mid-init c = record { work = refl; queue = refl; work_size = refl; queue_size = refl; did = record { between = λ x q l g s. begin x q l _ g _ _ _ s } }
 
 pub loop-mid-smaller : goal.loop-mid-smaller
 loop-mid-smaller c =
@@ -18,6 +18,8 @@ pub loop-mid-preserved : goal.loop-mid-preserved
 loop-mid-preserved c = record {
   work = cc;
   queue = cc;
+  work_size = cc;
+  queue_size = cc;
   did = record {
     between = λ x q l g s.
         next _ _ _ _ _ _ _ (c.loop-mid.invariant.did.between x q l g s) c.loop-mid-test.true _ _ _ _ c.one_band-mid.ensures.did;

@@ -7,4 +7,10 @@ use Rattle.fill_bands.proofs.goal_steps.Goals as goal
 pub loop-from-preserved : goal.loop-from-preserved
 loop-from-preserved c =
     let b = in_band _ _ c.requires.loaded _ c.requires.goals _ c.loop-from-test.true in
-    record { work = cc; queue = cc; did = one_more _ _ _ _ _ _ _ _ _ c.loop-from.invariant.did (omega arith) b _ _ _ c.cell_steps.ensures.did }
+    record {
+      work = cc;
+      queue = cc;
+      work_size = cc;
+      queue_size = cc;
+      did = one_more _ _ _ _ _ _ _ _ _ c.loop-from.invariant.did (omega arith) b _ _ _ c.cell_steps.ensures.did;
+    }

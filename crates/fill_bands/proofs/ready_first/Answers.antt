@@ -8,13 +8,15 @@ pub loop-i-preserved : goal.loop-i-preserved
 loop-i-preserved c =
     let k = c.loop-i.invariant.did in
     let b = counted _ _ _ _ c.from-top.ensures (rw k.0 at c.is_ready-in-loop-i.ensures) in
-    let m : c.loop-i.i < length c.loop-i.wave.queue.now = omega (arith, c.loop-i.wave.room, k.2) in
-    let n : c.loop-i.top < length c.loop-i.wave.queue.now = omega (arith, k.3.order) in
+    let m : c.loop-i.i < length c.loop-i.wave.queue.now = omega (arith, c.loop-i.wave.room, k.1) in
+    let n : c.loop-i.top < length c.loop-i.wave.queue.now = omega (arith, k.2.order) in
     let w = swapped_from_swap _ _ _ _ 0 m n (swap_is _ _ _ 0 m n) in
     record {
       work = c.loop-i.invariant.work;
       queue = c.loop-i.invariant.queue;
-      did = (k.0, simp length-set k.1, k.2, parted_step _ _ _ _ _ _ _ _ _ k.3 w b);
+      work_size = c.loop-i.invariant.work_size;
+      queue_size = simp length-set c.loop-i.invariant.queue_size;
+      did = (k.0, k.1, parted_step _ _ _ _ _ _ _ _ _ k.2 w b);
     }
 
 pub returns : goal.returns
@@ -23,5 +25,7 @@ returns c =
     record {
       work = k.work;
       queue = k.queue;
-      did = record { cells = k.did.0; size = k.did.1; end = k.did.2; parted = parted_all _ _ _ _ _ _ _ _ k.did.3 (c.loop-i.auto.i-end (omega arith)) c.loop-i-test.false };
+      work_size = k.work_size;
+      queue_size = k.queue_size;
+      did = record { cells = k.did.0; end = k.did.1; parted = parted_all _ _ _ _ _ _ _ _ k.did.2 (c.loop-i.auto.i-end (omega arith)) c.loop-i-test.false };
     }

@@ -7,6 +7,8 @@ pub loop-i-preserved : goal.loop-i-preserved
 loop-i-preserved c = record {
   work = cc;
   queue = cc;
+  work_size = cc;
+  queue_size = cc;
   did = λ w r.
       steps_more w _ _ _ _ _ r _ _ _ _ (c.loop-i.invariant.did w r) c.loop-i.auto.i c.loop-i-test.true _ _ _ c.cell_steps.ensures.did;
 }

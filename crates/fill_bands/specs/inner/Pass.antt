@@ -26,7 +26,6 @@ pub record Parted (x : List ℕ) (limit mid t : ℕ) (q q' : List ℕ) (top : �
 -- of a wave the cells q[fresh..t] do
 pub record FreshParted (fresh limit top t : ℕ) (x q x' q' : List ℕ) (t' : ℕ) : Type 0 where
   pub cells : x' ≡ x
-  pub size : length q' ≡ length q
   pub end : t' ≡ t
   pub parted : Parted x limit fresh t q q' top
 

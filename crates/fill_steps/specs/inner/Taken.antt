@@ -1,6 +1,6 @@
 -- What the steps out of one cell do: what they need to be taken in a band, and what they leave. A contract speaks of
 -- every band in which the steps may be taken (`keeps`); that they are safe to take is said apart from it.
-use Rattle.std.specs.Prelude.{◌≡◌, ℕ, ◌+◌, ◌-◌, ◌/◌, ◌<◌, ◌≤◌, min, List, length, slice_set}
+use Rattle.std.specs.Prelude.{◌≡◌, ℕ, ◌+◌, ◌-◌, ◌/◌, ◌<◌, ◌≤◌, min, List, slice_set}
 use Rattle.fill_steps.specs.inner.Work.{unreached, span, stepped, highest, at, target, WorkStep, QueueRoom}
 use Rattle.fill_steps.specs.inner.Band.{Band, Underway, Falls}
 
@@ -34,7 +34,6 @@ pub record SideStep (p h cand r t : ℕ) (x q x' q' : List ℕ) (t' : ℕ) : Typ
 
 -- the straight step after the diagonal heading h was taken; after 7, the last one, it is north, which was taken first
 pub record SideAfter (p h cand north r t : ℕ) (x q x' q' : List ℕ) (t' : ℕ) : Type 0 where
-  pub size : length x' ≡ length x
   pub step : h < 7 → SideStep p (h + 1) cand r t x q x' q' t'
   pub last : h ≡ 7 → (x' ≡ x) × (q' ≡ q) × (t' ≡ t) × (r ≡ north)
 
@@ -58,5 +57,4 @@ pub record This (x : List ℕ) (limit p : ℕ) : Type 0 where
 
 -- every step out of p was taken, in every band that ends where numbers have room and whose cell it is
 pub record TakenLeft (p t : ℕ) (x q x' q' : List ℕ) (t' : ℕ) : Type 0 where
-  pub size : length x' ≡ length x
   pub keeps : (w : Band) → Underway w x q t → w.limit ≤ highest → This x w.limit p → Offered w (λ h. h < 8) p x q x' q' t'

@@ -1,7 +1,6 @@
 -- `fill_steps::cell_steps` meets its contract. The invariant: the steps with the headings before this one were taken, and
 -- the mask that is kept is that of the side cell behind.
 use Rattle.std.proofs.Common.{◌≡◌, ℕ, zero, suc, ◌+◌, ◌*◌, ◌<◌, [], ◌∷◌, get_or, refl, arith}
-use Rattle.fill_steps.proofs.Changed.{made_size}
 use Rattle.fill_steps.proofs.InWork.{in_work}
 use Rattle.fill_steps.proofs.ManySteps.{headings_more, headings_all}
 use Rattle.fill_steps.proofs.Wave.cell_steps.Goals as goal
@@ -18,13 +17,14 @@ pub offer-requires : goal.offer-requires
 offer-requires c =
     let e = diagonal_at _ c.loop-diagonally-test.true in
     let l = in_work c.args.self.now.work.now c.args.from (2 * c.loop-diagonally.diagonally-index + 1) (omega arith) c.requires.off_border in
-    let n = made_size _ _ _ _ _ _ _ _ c.side_step-north.ensures.did.offer in
-    omega (arith, rw e at c.place_of.ensures, l, n, c.loop-diagonally.invariant.did.size, c.side_after-other.ensures.did.size)
+    omega (arith, rw e at c.place_of.ensures, l, c.side_step-north.ensures, c.loop-diagonally.invariant, c.side_after-other.ensures)
 
 pub loop-diagonally-preserved : goal.loop-diagonally-preserved
 loop-diagonally-preserved c = record {
   work = cc;
   queue = cc;
+  work_size = cc;
+  queue_size = cc;
   did =
       headings_more _ _ _ _ _ _ _ _ _ _ _ c.loop-diagonally.invariant.did c.loop-diagonally-test.true _ (diagonal_at _ c.loop-diagonally-test.true) _ refl _ _ _ _
       c.side_after-other.ensures.did _ _ _ _ _ _ c.diagonal_of-diagonal.ensures c.past.ensures c.place_of.ensures c.offer.ensures.did;
@@ -34,6 +34,8 @@ pub returns : goal.returns
 returns c = record {
   work = cc;
   queue = cc;
+  work_size = cc;
+  queue_size = cc;
   did =
       headings_all _ _ _ _ _ _ _ _ _ _ _ _ _ _ _ refl refl c.side_step-north.ensures.did c.loop-diagonally.invariant.did c.loop-diagonally-test.false;
 }

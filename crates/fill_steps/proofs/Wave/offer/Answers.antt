@@ -18,5 +18,7 @@ returns c =
     record {
       work = l.work;
       queue = l.queue;
+      work_size = l.work_size;
+      queue_size = l.queue_size;
       did = lowered_made _ _ _ _ _ _ _ _ _ _ c.args.self.now.room l.did (omega (arith, n, least));
     }
