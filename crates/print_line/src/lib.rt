@@ -47,7 +47,7 @@ fn put_way(page: &mut Page<'_>, number: usize, centimetres: u32, way: Way, legs:
         way.legs,
     ]);
     page.put_fields(&legs[..2 * way.legs]);
-    page.end_line();
+    page.put_newline();
 }
 
 // The centimetres of a length.
