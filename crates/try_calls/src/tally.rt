@@ -117,7 +117,7 @@ impl fmt::Display for Counts {
 // How many numbers of answers are counted: each up to 31, and then any other.
 const NUMBERS: usize = 33;
 
-// The highest number that has a meaning: its count is printed though it is 0.
+// The highest number that a call gives: the counts up to it are printed though they are 0.
 const LAST: usize = 13;
 
 // The counts of every line, and of the numbers of answers.
@@ -175,7 +175,7 @@ impl Tally {
         Ok(())
     }
 
-    // Prints how often each number was the answer; of those that have no meaning, only if it was.
+    // Prints how often each number was the answer; of those that no call gives, only if it was.
     fn print_answers(&self, rt: &impl Print) -> io::Result<()> {
         for (number, times) in self.answers.iter().enumerate() {
             if number <= LAST || *times != 0 {
