@@ -15,7 +15,7 @@ import sys
 ROOT = pathlib.Path(__file__).resolve().parent.parent
 CRATES = ROOT / "crates"
 # records of what was: they may name what is no more
-RECORDS = {"PORT.md"}
+RECORDS = {"PORT.md", "DESIGN-PASS.md"}
 GONE = {"host/samples/make_plan.py"}
 PACKAGES = {"qemu-user", "libboost-graph-dev", "rattle-kit-13f"}
 # code beside the crates, whose words pages may name

@@ -3,7 +3,7 @@
 use mathlib.Core.Path.{◌≡◌, refl, ap, ap₂, sym, ◌∙◌}
 use mathlib.Core.Bool.{Bool, true, false, not, true≢false, false≢true}
 use mathlib.Core.List.{List}
-use Prim.Native.Nat.{ℕ, ◌+◌, ◌-◌, min, ◌≤◌, ◌<◌}
+use Prim.Native.Nat.{ℕ, ◌+◌, ◌-◌, ◌/◌, ◌%◌, min, ◌≤◌, ◌<◌}
 use native.Mathlib.Omega.{arith}
 use lib.Dec.{T as Holds, ltb, eqb}
 use lib.Arith.{digits_lt}
@@ -16,7 +16,7 @@ use Rattle.lengths.specs.Order.{◌⊑◌, shorter}
 use Rattle.lengths.proofs.Order.{◌⊏◌, ⊏-⊑, shorter_yes, shorter_no}
 use Rattle.lengths.specs.inner.Keys.{key}
 use Rattle.lengths.proofs.Keys.{order_key}
-use Rattle.lengths.proofs.Tested.{small_parts}
+use Rattle.lengths.proofs.Tested.{small_parts, parts_small}
 use Rattle.floor.specs.Floor.{Map, blocked, open?, cell_of, cells}
 use Rattle.steps.specs.inner.Leading.{open_past}
 use Rattle.answers.proofs.Bools.{both_true}
@@ -40,6 +40,19 @@ kind v = by (eqb v 4294967295) (part_above way_part (parts_of v)) refl refl
     by false true p q = bad (rw (p, q)) (rw q) (rw (q, p))
     by true false p q = good (rw p) (small_parts way_part (parts_of v) q) (rw q) (rw q)
     by false false p q = good (rw (p, q)) (small_parts way_part (parts_of v) q) (rw q) (rw q)
+
+-- the number of an open cell, as the code tells parts in their limits by whole quotients
+pub open_good : (v : ℕ) → v / 65536 / 16384 + v % 65536 / 16384 ≡ 0 → open_number v ≡ key (parts_of v)
+unfolding open_number
+open_good v e = rw (parts_small way_part (parts_of v) (omega arith))
+
+pub open_bad : (v : ℕ) → (v / 65536 / 16384 + v % 65536 / 16384 ≡ 0 → ⊥) → open_number v ≡ none + not_mark v
+unfolding open_number
+open_bad v e = by (part_above way_part (parts_of v)) refl
+  where
+    by : (t : Bool) → part_above way_part (parts_of v) ≡ t → pick t (none + not_mark v) (key (parts_of v)) ≡ none + not_mark v
+    by true p = refl
+    by false p = let w = small_parts way_part (parts_of v) p in absurd (e (omega arith))
 
 -- an open cell's number is below the wall
 pub open_low : (v : ℕ) → open_number v < wall

@@ -30,6 +30,9 @@ differing_low x goal first (suc c) = by (differs_at x goal first c) (differing_l
     by true h = omega arith
     by false h = omega arith
 
+-- what a turn of the count goes by
+pub ruleset counting = (differing_more, differing_low)
+
 -- where none differs, each is right
 pub differing_zero : (x : List ℕ) (goal first n : ℕ) → differing x goal first n ≡ 0 → (c : ℕ) → c < n → differs_at x goal first c ≡ false
 unfolding differing

@@ -7,4 +7,5 @@ mod least;
 mod rows;
 mod window;
 
+pub use rows::Row;
 pub use window::{ACROSS, NUMBERS, Window};

@@ -6,12 +6,29 @@ ghost use Rattle.check_rows.specs.inner.Window.{differs_in, start_of, differs_at
 use crate::Window;
 use crate::cell_numbers::{NONE, WALL};
 
-// What a cell starts at: 0 if it is the goal's. A cell's number is a u32 here, as wide as the numbers of the window: with
-// usize a check takes 7 % more instructions.
-fn start_of(goal: u32, cell: u32) -> u32
-    ensures { result ≡ start_of goal cell }
-{
-    if cell == goal { 0 } else { NONE }
+// The row of the floor that stands in the window's middle row: its width, its first cell, and the goal's cell. Cells
+// are u32 here, as wide as the numbers of the window: with usize a check takes 7 % more instructions.
+#[derive(Clone, Copy)]
+pub struct Row {
+    pub width: usize,
+    pub first: u32,
+    pub goal: u32,
+    pub ghost narrow: { width ≤ 128 },
+    pub ghost within: { first < 16384 },
+}
+
+impl Row {
+    // What the cell at a column starts at: 0 if it is the goal's.
+    fn start_at(self, column: usize) -> u32
+        requires { column < 128 }
+        ensures { result ≡ start_of self.goal (self.first + column) }
+    {
+        if self.first + column as u32 == self.goal {
+            0
+        } else {
+            NONE
+        }
+    }
 }
 
 impl Window {
@@ -25,39 +42,34 @@ impl Window {
         number != self.least(column, start) && number != WALL
     }
 
-    // Whether the cell at a column of the middle row, a row with this first cell, is not as its neighbours make it.
-    fn differs_at(&self, goal: u32, first: u32, column: usize) -> bool
-        requires column_bound { column < 128 }
-        requires first_bound { first < 16384 }
-        ensures { result ≡ differs_at self.now.numbers goal first column }
+    // Whether the cell at a column of the row is not as its neighbours make it.
+    fn differs_at(&self, row: Row, column: usize) -> bool
+        requires { column < 128 }
+        ensures { result ≡ differs_at self.now.numbers row.goal row.first column }
     {
-        self.differs(column, start_of(goal, first + column as u32))
+        self.differs(column, row.start_at(column))
     }
 
-    // How many cells of the middle row differ. A sum over all of them, with no way out, is done for several at a time;
+    // How many cells of the row differ. A sum over all of them, with no way out, is done for several at a time;
     // `filter` and `count` take twice as many instructions.
-    #[tactic(auto, using(crate::proofs::OneMore::differing_more, crate::proofs::OneMore::differing_low), unfolding(crate::specs::inner::Window::differing))]
-    fn differing_in(&self, width: usize, goal: u32, first: u32) -> u32
-        requires width_bound { width ≤ 128 }
-        requires first_bound { first < 16384 }
-        ensures { result ≡ differing self.now.numbers goal first width }
+    #[tactic(auto, using(crate::proofs::OneMore::counting), unfolding(crate::specs::inner::Window::differing))]
+    fn differing_in(&self, row: Row) -> u32
+        ensures { result ≡ differing self.now.numbers row.goal row.first row.width }
     {
         let mut count: u32 = 0;
-        for column in 0..width {
-            count += u32::from(self.differs_at(goal, first, column));
+        for column in 0..row.width {
+            count += u32::from(self.differs_at(row, column));
         }
         count
     }
 
-    // The first column of the middle row whose cell differs: they are looked at one by one only where some cell does.
-    pub fn first_wrong(&self, width: usize, goal: u32, first: u32) -> Option<usize>
-        requires width_bound { width ≤ 128 }
-        requires first_bound { first < 16384 }
-        ensures { FirstWrong (λ c. differs_at self.now.numbers goal first c ≡ false) width result }
+    // The first column of the row whose cell differs: they are looked at one by one only where some cell does.
+    pub fn first_wrong(&self, row: Row) -> Option<usize>
+        ensures { FirstWrong (λ c. differs_at self.now.numbers row.goal row.first c ≡ false) row.width result }
     {
-        if self.differing_in(width, goal, first) == 0 {
+        if self.differing_in(row) == 0 {
             return None;
         }
-        (0..width).find(|column| self.differs_at(goal, first, *column))
+        (0..row.width).find(|column| self.differs_at(row, *column))
     }
 }

@@ -31,7 +31,7 @@ impl Window {
     }
 
     // The number at a row and a column, the columns counted from the border on.
-    pub fn at(&self, row: usize, column: usize) -> u32
+    pub(crate) fn at(&self, row: usize, column: usize) -> u32
         requires { (row < 3) × (column < 130) }
         ensures { result ≡ at self.now.numbers row column }
     {

@@ -18,12 +18,11 @@ use Rattle.steps.specs.Way.{Only}
 use Rattle.table_theory.specs.Made.{Right}
 use Rattle.table_theory.specs.inner.First.{FirstWrong}
 use Rattle.table_theory.specs.inner.Written.{Written}
-use Rattle.table_theory.proofs.Writing.{written_as}
-use Rattle.check_rows.specs.inner.Level.{number_at}
 use Rattle.check_rows.specs.inner.Window.{Walled, Showing, start_of, differs_at}
 use Rattle.check_rows.proofs.OneMore.{all_judged}
 use Rattle.check_rows.proofs.Deciding.{tells_only}
 use Rattle.check_rows.proofs.InWindow.{decided}
+use Rattle.check_table.specs.inner.Rows.{in_row}
 use Rattle.check_table.proofs.Windows.{walled_window, row_written, moved_down}
 
 -- what is known where a row is about to be judged
@@ -34,20 +33,17 @@ pub record BeforeRow (m : Map) (t : List ℕ) (goal row : ℕ) (x : List ℕ) : 
   pub right : (y : ℕ) → y < row * m.width → Right (steps_of m) (Only goal) t y
 
 module _ (m : Map) (t : List ℕ) (goal : ℕ) (sound : SoundFloor m) (chosen : OpenCell m goal) where
-  pub going_first : (x y : List ℕ) → Walled x → Written (λ c. number_at m t (c + 1) (0 + 1)) 131 m.width x y → BeforeRow m t goal 0 y
+  pub going_first : (x y : List ℕ) → Walled x → Written (in_row m t 0) 131 m.width x y → BeforeRow m t goal 0 y
   going_first x y w d = record {
-    window = row_written m t 0 1 131 x y refl sound.wide (walled_window m t x w) d;
+    window = row_written m t 0 1 131 0 x y refl refl sound.wide (walled_window m t x w) d;
     right = λ z h. absurd (omega arith);
   }
 
   module _ (row : ℕ) (x y : List ℕ) (high : row < m.height) (going : BeforeRow m t goal row x)
-      (next : Written (λ c. number_at m t (c + 1) (row + 1 + 1)) 261 m.width x y) where
+      (next : Written (in_row m t (row + 1)) 261 m.width x y) where
     -- the window with the next row
     whole : Showing m t row 3 y
-    whole =
-        row_written m t row 2 261 x y refl sound.wide going.window
-        (written_as (λ c. number_at m t (c + 1) (row + 1 + 1)) (λ c. number_at m t (c + 1) (row + 2)) 261 m.width x y
-        (λ i h. let e : row + 1 + 1 ≡ row + 2 = omega arith in ap (number_at m t (i + 1)) e) next)
+    whole = row_written m t row 2 261 (row + 1) x y refl (omega arith) sound.wide going.window next
 
     free : (i : ℕ) → i < m.width → cell_of m i row ≡ goal → Open m i row
     free i k e = subst₂ (Open m) (ap (λ (z : ℕ). z % m.width) (sym e) ∙ digits_mod row k)

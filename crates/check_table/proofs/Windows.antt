@@ -9,6 +9,7 @@ use native.Mathlib.Decide.{dec_le, ℕ_discrete}
 use lib.ListN.{get_or}
 use Rattle.floor.specs.Floor.{Map}
 use Rattle.check_rows.specs.inner.Level.{wall, number_at}
+use Rattle.check_table.specs.inner.Rows.{in_row}
 use Rattle.check_rows.specs.inner.Window.{Walled, Showing}
 use Rattle.table_theory.specs.inner.Written.{Written}
 use Rattle.check_rows.proofs.CellNumbers.{west, north, east, number_off}
@@ -27,9 +28,9 @@ module _ (m : Map) (t : List ℕ) where
   }
 
   -- one row more
-  pub row_written : (row count from : ℕ) (x y : List ℕ) → from ≡ count * 130 + 1 → m.width ≤ 128
-      → Showing m t row count x → Written (λ c. number_at m t (c + 1) (row + count)) from m.width x y → Showing m t row (count + 1) y
-  row_written row count from x y e narrow w d = record { size = d.size ∙ w.size; numbers = numbers; border = border }
+  pub row_written : (row count from here : ℕ) (x y : List ℕ) → from ≡ count * 130 + 1 → row + count ≡ here + 1 → m.width ≤ 128
+      → Showing m t row count x → Written (in_row m t here) from m.width x y → Showing m t row (count + 1) y
+  row_written row count from here x y e f narrow w d = record { size = d.size ∙ w.size; numbers = numbers; border = border }
     where
       -- a place beside the floor is not written
       apart : (z : ℕ) → (z % 130 ≡ 0) ⊎ (m.width < z % 130) → Dec (z < from) → (z < from) ⊎ (from + m.width ≤ z)
@@ -52,8 +53,8 @@ module _ (m : Map) (t : List ℕ) where
           by (no p) (no a) (no b) =
               let i : z ≡ from + (z % 130 - 1) = omega arith in
               let c : z % 130 - 1 + 1 ≡ z % 130 = omega arith in
-              let r : count ≡ z / 130 = omega arith in
-              ap (λ (n : ℕ). get_or y n 0) i ∙ d.inside (z % 130 - 1) (omega arith) ∙ ap₂ (λ (u v : ℕ). number_at m t u (row + v)) c r
+              let r : here + 1 ≡ row + z / 130 = omega arith in
+              ap (λ (n : ℕ). get_or y n 0) i ∙ d.inside (z % 130 - 1) (omega arith) ∙ ap₂ (number_at m t) c r
 
   -- one row down
   pub moved_down : (row : ℕ) (x y : List ℕ) → Showing m t row 3 x → Written (λ z. get_or x (z + 130) 0) 0 260 x y → Showing m t (row + 1) 2 y

@@ -16,16 +16,16 @@ pub struct Checked<'a> {
 }
 
 impl Checked<'_> {
-    ghost use Rattle.std.specs.Prelude.{◌+◌, ◌*◌, ◌<◌, ◌≤◌, EachIndex, slice_index};
+    ghost use Rattle.std.specs.Prelude.{◌+◌, ◌*◌, ◌<◌, ◌≤◌};
     ghost use Rattle.floor.specs.Lent.{floor_map};
     ghost use Rattle.table_theory.specs.inner.Written.{Written};
-    ghost use Rattle.check_rows.specs.inner.Level.{number_at};
+    ghost use Rattle.check_table.specs.inner.Rows.{in_row, RowNumbers};
 
     // The number of a cell of the floor.
     #[tactic(auto, using(check_rows::proofs::CellNumbers::number_read))]
     fn number_at(&self, column: usize, row: usize) -> u32
         requires { (column < self.now.floor.width) × (row < self.now.floor.height) }
-        ensures { result ≡ number_at (floor_map self.now.floor) self.now.entries.now (column + 1) (row + 1) }
+        ensures { result ≡ in_row (floor_map self.now.floor) self.now.entries.now row column }
     {
         let cell = self.floor.cell_of(Spot { column, row });
         cell_numbers::number_of(self.floor.blocked_at(column, row), self.entries[cell])
@@ -35,7 +35,7 @@ impl Checked<'_> {
     fn load_row(&self, row: usize, numbers: &mut [u32])
         requires on { row < self.now.floor.height }
         requires room { length numbers.old ≡ self.now.floor.width }
-        ensures { EachIndex numbers.new (λ c. slice_index numbers.new c ≡ number_at (floor_map self.now.floor) self.now.entries.now (c + 1) (row + 1)) }
+        ensures { RowNumbers (floor_map self.now.floor) self.now.entries.now row numbers.new }
     {
         for (column, number) in numbers.iter_mut().enumerate() {
             *number = self.number_at(column, row);
@@ -47,7 +47,7 @@ impl Checked<'_> {
     fn next_row(&self, row: usize, numbers: &mut [u32])
         requires rows { row ≤ self.now.floor.height }
         requires room { length numbers.old ≡ self.now.floor.width }
-        ensures { EachIndex numbers.new (λ c. slice_index numbers.new c ≡ number_at (floor_map self.now.floor) self.now.entries.now (c + 1) (row + 1)) }
+        ensures { RowNumbers (floor_map self.now.floor) self.now.entries.now row numbers.new }
     {
         if row < self.floor.height {
             self.load_row(row, numbers);
@@ -61,7 +61,7 @@ impl Checked<'_> {
     pub fn show(&self, row: usize, window: &mut Window, at: usize)
         requires rows { row ≤ self.now.floor.height }
         requires at_bound { at < 3 }
-        ensures { Written (λ c. number_at (floor_map self.now.floor) self.now.entries.now (c + 1) (row + 1)) (at * 130 + 1) self.now.floor.width window.old.numbers window.new.numbers }
+        ensures { Written (in_row (floor_map self.now.floor) self.now.entries.now row) (at * 130 + 1) self.now.floor.width window.old.numbers window.new.numbers }
     {
         let from = at * ACROSS + 1;
         self.next_row(row, &mut window.numbers[from..from + self.floor.width]);

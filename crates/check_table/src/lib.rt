@@ -11,7 +11,7 @@ ghost use Rattle.table_theory.specs.Made.{Right};
 ghost use Rattle.table_theory.specs.inner.First.{FirstWrong};
 
 use calls::Goal;
-use check_rows::Window;
+use check_rows::{Row, Window};
 use checked::Checked;
 
 mod cell_numbers;
@@ -33,7 +33,11 @@ pub fn first_wrong(goal: &Goal, table: &[u32]) -> Option<usize>
     for row in 0..floor.height {
         checked.show(row + 1, &mut window, 2);
         let first = row * floor.width;
-        let wrong = window.first_wrong(floor.width, goal.cell as u32, first as u32);
+        let wrong = window.first_wrong(Row {
+            width: floor.width,
+            first: first as u32,
+            goal: goal.cell as u32,
+        });
         if let Some(column) = wrong {
             return Some(first + column);
         }

@@ -1,3 +1,3 @@
 pub mod Kept
-pub mod FourNumbers
+pub mod Fours
 pub mod MapLoaded

@@ -15,7 +15,7 @@ pub struct Floor<'a> {
 }
 
 // The masks of the bits from a place on in a byte.
-const PADDING: [u8; 8] = [255, 254, 252, 248, 240, 224, 192, 128];
+static PADDING: [u8; 8] = [255, 254, 252, 248, 240, 224, 192, 128];
 
 // How many bytes a row of the map has.
 pub fn row_bytes(width: usize) -> usize

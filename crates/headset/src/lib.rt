@@ -13,13 +13,14 @@ ghost use Rattle.plan.specs.Reads.{Reads, Asks};
 ghost use Rattle.headset.specs.Shown.{Shows, length_of, compare_answer, distance_answer, number_of, check_answer};
 ghost use Rattle.headset.specs.Shown.{route_answer, room_answer, plan_answer, query_answer};
 
+use floor::{Map, Spot};
 use lengths::Length;
 
 mod structs;
 
 // Comparing: 1 for first shorter, 0 for first not shorter.
 #[repr(C)]
-#[derive(Clone, Copy)]
+#[derive(Clone, Copy, Default)]
 pub struct CompareAnswer {
     pub number: usize,
     pub shorter: usize,
@@ -27,7 +28,7 @@ pub struct CompareAnswer {
 
 // The distance spoken.
 #[repr(C)]
-#[derive(Clone, Copy)]
+#[derive(Clone, Copy, Default)]
 pub struct DistanceAnswer {
     pub number: usize,
     pub centimetres: usize,
@@ -35,7 +36,7 @@ pub struct DistanceAnswer {
 
 // Checking a table: the first cell that differs.
 #[repr(C)]
-#[derive(Clone, Copy)]
+#[derive(Clone, Copy, Default)]
 pub struct CheckAnswer {
     pub number: usize,
     pub cell: usize,
@@ -43,7 +44,7 @@ pub struct CheckAnswer {
 
 // A route: its length and leg count; or a refusal's place, the leg count of 10 and the first cell that differs of 11.
 #[repr(C)]
-#[derive(Clone, Copy)]
+#[derive(Clone, Copy, Default)]
 pub struct RouteAnswer {
     pub number: usize,
     pub place: usize,
@@ -54,7 +55,7 @@ pub struct RouteAnswer {
 
 // A room: its first and last columns and rows.
 #[repr(C)]
-#[derive(Clone, Copy)]
+#[derive(Clone, Copy, Default)]
 pub struct RoomAnswer {
     pub number: usize,
     pub left: usize,
@@ -65,7 +66,7 @@ pub struct RoomAnswer {
 
 // A plan: what it holds and where, or the offset of the break.
 #[repr(C)]
-#[derive(Clone, Copy)]
+#[derive(Clone, Copy, Default)]
 pub struct PlanAnswer {
     pub number: usize,
     pub offset: usize,
@@ -80,7 +81,7 @@ pub struct PlanAnswer {
 
 // A query of a plan: the start's column and row, and the goal's.
 #[repr(C)]
-#[derive(Clone, Copy)]
+#[derive(Clone, Copy, Default)]
 pub struct QueryAnswer {
     pub number: usize,
     pub start_column: usize,
@@ -107,7 +108,7 @@ pub extern "C" fn ways_compare(
         straight: second_straight,
         diagonal: second_diagonal,
     };
-    structs::compare_answer(lengths::compare(first, second))
+    lengths::compare(first, second).into()
 }
 
 // The distance spoken, in centimetres.
@@ -115,7 +116,7 @@ pub extern "C" fn ways_compare(
 pub extern "C" fn ways_distance(size: u32, straight: u32, diagonal: u32) -> DistanceAnswer
     ensures { Shows distance_answer (Speaks size (length_of straight diagonal)) result }
 {
-    structs::distance_answer(lengths::distance_spoken(size, Length { straight, diagonal }))
+    lengths::distance_spoken(size, Length { straight, diagonal }).into()
 }
 
 // Filling a length table for the goal at a column and a row.
@@ -130,7 +131,12 @@ pub extern "C" fn ways_fill(
 ) -> usize
     ensures { Shows number_of (λ a. Fills (to_goal_of width height map.now column row) table.old a table.new) result }
 {
-    structs::number_of(table::fill(width, height, map, column, row, table))
+    let map = Map {
+        width,
+        height,
+        bytes: map,
+    };
+    structs::number_of(table::fill(&map, Spot { column, row }, table))
 }
 
 // Checking a table from anyone for the goal at a column and a row.
@@ -145,7 +151,12 @@ pub extern "C" fn ways_check(
 ) -> CheckAnswer
     ensures { Shows check_answer (Checks (to_goal_of width height map.now column row) table.now) result }
 {
-    structs::check_answer(table::check(width, height, map, column, row, table))
+    let map = Map {
+        width,
+        height,
+        bytes: map,
+    };
+    table::check(&map, Spot { column, row }, table).into()
 }
 
 // Finding a route; the table is filled for its goal.
@@ -164,17 +175,16 @@ pub extern "C" fn ways_find_route(
     ensures { Shows route_answer (λ a. Finds (route_of width height map.now from_column from_row column row)
         table.old legs.old a table.new legs.new) result }
 {
-    structs::route_answer(route::find_route(
+    let map = Map {
         width,
         height,
-        map,
-        from_column,
-        from_row,
-        column,
-        row,
-        table,
-        legs,
-    ))
+        bytes: map,
+    };
+    let start = Spot {
+        column: from_column,
+        row: from_row,
+    };
+    route::find_route(&map, start, Spot { column, row }, table, legs).into()
 }
 
 // A route from a table, which is checked first and only read.
@@ -193,17 +203,16 @@ pub extern "C" fn ways_route_from_table(
     ensures { Shows route_answer (λ a. ReadsTable (route_of width height map.now from_column from_row column row)
         table.now legs.old a legs.new) result }
 {
-    structs::route_answer(route::route_from_table(
+    let map = Map {
         width,
         height,
-        map,
-        from_column,
-        from_row,
-        column,
-        row,
-        table,
-        legs,
-    ))
+        bytes: map,
+    };
+    let start = Spot {
+        column: from_column,
+        row: from_row,
+    };
+    route::route_from_table(&map, start, Spot { column, row }, table, legs).into()
 }
 
 // The room around a cell.
@@ -217,7 +226,12 @@ pub extern "C" fn ways_room(
 ) -> RoomAnswer
     ensures { Shows room_answer (Rooms (map_of width height map.now) (spot_of column row)) result }
 {
-    structs::room_answer(rooms::room_around(width, height, map, column, row))
+    let map = Map {
+        width,
+        height,
+        bytes: map,
+    };
+    rooms::room_around(&map, Spot { column, row }).into()
 }
 
 // What the bytes are as a plan.
@@ -225,7 +239,7 @@ pub extern "C" fn ways_room(
 pub extern "C" fn ways_read_plan(bytes: &[u8]) -> PlanAnswer
     ensures { Shows plan_answer (Reads bytes.now) result }
 {
-    structs::plan_answer(plan::read(bytes))
+    plan::read(bytes).into()
 }
 
 // The query whose record begins at an offset; 14 where the bytes end before the record does.
@@ -233,5 +247,5 @@ pub extern "C" fn ways_read_plan(bytes: &[u8]) -> PlanAnswer
 pub extern "C" fn ways_query(bytes: &[u8], at: usize) -> QueryAnswer
     ensures { Shows query_answer (Asks bytes.now at) result }
 {
-    structs::query_answer(plan::ask_query(bytes, at))
+    plan::ask_query(bytes, at).into()
 }

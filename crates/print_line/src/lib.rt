@@ -2,35 +2,28 @@
 // query's answer.
 #![tactic(auto)]
 
-ghost use Rattle.std.specs.Prelude.{◌≡◌, false};
-ghost use Rattle.lengths.specs.Answers.{size_outside};
+ghost use Rattle.std.specs.Prelude.{Ok, Err};
 ghost use Rattle.lengths.specs.Distance.{Spoken};
 ghost use Rattle.lengths.specs.inner.AtMost.{Within};
 ghost use Rattle.print_text.specs.Text.{line};
 ghost use Rattle.print_text.specs.inner.Page.{HasRoom};
-ghost use Rattle.print_line.specs.declared.Head.TheVariants as head;
 ghost use Rattle.print_line.specs.Head.{head_line};
 ghost use Rattle.print_line.specs.LineRoom.{line_room};
 ghost use Rattle.print_line.specs.inner.Written.{PutLine, Writes, WayFits, Fits, way_numbers, AnswerLine};
 
 use answers::Refusal;
-use lengths::Distance;
 use plan::Plan;
 use print_text::Page;
-use route::Answer;
 use route_legs::Way;
 
-// What the first line says: a refusal, or the floor.
-#[derive(Clone, Copy)]
-pub enum Head {
-    Refused(Refusal),
-    Floor(Plan),
-}
+mod cell_size;
+
+pub use cell_size::CellSize;
 
 // Writes the line "floor", width, height, cell size.
 fn put_floor(page: &mut Page<'_>, plan: Plan)
     requires { HasRoom line_room page.old }
-    ensures { PutLine page.old (head_line (head.Floor plan)) page.new }
+    ensures { PutLine page.old (head_line (Ok plan)) page.new }
 {
     page.put_word(b"floor ");
     page.put_line(&[plan.width, plan.height, plan.size]);
@@ -54,54 +47,55 @@ fn put_way(page: &mut Page<'_>, number: usize, centimetres: u32, way: Way, legs:
         way.legs,
     ]);
     page.put_fields(&legs[..2 * way.legs]);
-    page.end_line();
+    page.put_newline();
 }
 
 // The centimetres of a length.
-fn centimetres_of(size: u32, way: Way) -> u32
-    requires size_inside { size_outside size ≡ false }
-    requires within { Within way.length }
-    ensures { Spoken size way.length result }
+fn centimetres_of(size: CellSize, way: Way) -> u32
+    requires { Within way.length }
+    ensures { Spoken size.centimetres way.length result }
 {
-    match lengths::distance_spoken(size, way.length) {
-        Distance::Centimetres(n) => n,
-        Distance::Refused(_) => 0,
-    }
+    lengths::distance_spoken(size.centimetres, way.length).unwrap()
 }
 
 // Writes the line of a query's answer.
-pub fn put_answer(page: &mut Page<'_>, number: usize, size: u32, answer: Answer, legs: &[u8])
+pub fn put_answer(
+    page: &mut Page<'_>,
+    number: usize,
+    size: CellSize,
+    answer: Result<Way, Refusal>,
+    legs: &[u8],
+)
     requires room { HasRoom line_room page.old }
-    requires size_inside { size_outside size ≡ false }
     requires fits { Fits answer legs.now }
-    ensures { Writes (AnswerLine size number legs.now answer) page.old page.new }
+    ensures { Writes (AnswerLine size.centimetres number legs.now answer) page.old page.new }
 {
     match answer {
-        Answer::Way(way) => put_way(page, number, centimetres_of(size, way), way, legs),
-        Answer::Refused(refusal) => page.put_line(&[number, refusal.number as usize]),
+        Ok(way) => put_way(page, number, centimetres_of(size, way), way, legs),
+        Err(refusal) => page.put_line(&[number, refusal.number()]),
     }
 }
 
 // Writes the line of a refusal: its number, and with 14 the offset.
 fn put_refusal(page: &mut Page<'_>, refusal: Refusal)
     requires { HasRoom line_room page.old }
-    ensures { PutLine page.old (head_line (head.Refused refusal)) page.new }
+    ensures { PutLine page.old (head_line (Err refusal)) page.new }
 {
-    let number = refusal.number as usize;
-    if refusal.number == 14 {
-        page.put_line(&[number, refusal.place]);
+    let number = refusal.number();
+    if number == 14 {
+        page.put_line(&[number, refusal.place()]);
     } else {
         page.put_line(&[number]);
     }
 }
 
-// Writes the first line.
-pub fn put_head(page: &mut Page<'_>, head: Head)
+// Writes the first line: a refusal, or the floor.
+pub fn put_head(page: &mut Page<'_>, head: Result<Plan, Refusal>)
     requires { HasRoom line_room page.old }
     ensures { PutLine page.old (head_line head) page.new }
 {
     match head {
-        Head::Refused(refusal) => put_refusal(page, refusal),
-        Head::Floor(plan) => put_floor(page, plan),
+        Ok(plan) => put_floor(page, plan),
+        Err(refusal) => put_refusal(page, refusal),
     }
 }

@@ -7,6 +7,7 @@ use Prim.Native.Nat.{ℕ, zero, suc, ◌+◌, ◌<◌}
 use native.Mathlib.Omega.{arith}
 use lib.ListN.{length, get_or}
 use lib.Seq.{ext_get_or}
+use Rattle.std.specs.Prelude.{Ok, Err}
 use Rattle.answers.specs.declared.Refusal.{Refusal}
 use Rattle.floor.specs.Floor.{Map}
 use Rattle.plan.specs.declared.Plan.{Plan}
@@ -15,9 +16,7 @@ use Rattle.plan.specs.Sound.{Contents, Sound}
 use Rattle.plan.specs.Reads.{plan_of}
 use Rattle.plan.proofs.Only.{one_contents}
 use Rattle.print_text.specs.Text.{line}
-use Rattle.print_line.specs.declared.Head.{Head}
-use Rattle.print_line.specs.declared.Head.TheVariants as head
-use Rattle.print_line.specs.Head.{head_line}
+use Rattle.print_line.specs.Head.{Head, head_line}
 use Rattle.print_plan.specs.Query.{QueryNumbers}
 use Rattle.print_plan.specs.Lines.{map_in, Heads, count_of, no_query, LineAt}
 use Rattle.print_plan.proofs.OneLine.{one_head, one_line}
@@ -32,10 +31,10 @@ pub data QueryLines (m : Map) (size : ℕ) : ℕ → List Query → List (List �
 
 -- the lines that are printed: a refusal's, or the floor's and then for each query its number from 1, and its answer
 pub data Prints (input : List ℕ) : List (List ℕ) → Type 0 where
-  refused : (f : Refusal) → Heads input (head.Refused f) → Prints input (head_line (head.Refused f) ∷ [])
+  refused : (f : Refusal) → Heads input (Err f) → Prints input (head_line (Err f) ∷ [])
   answered :
-      (c : Contents) (ls : List (List ℕ)) → Sound input c → Heads input (head.Floor (plan_of c))
-      → QueryLines (map_in c) c.size 1 c.queries ls → Prints input (head_line (head.Floor (plan_of c)) ∷ ls)
+      (c : Contents) (ls : List (List ℕ)) → Sound input c → Heads input (Ok (plan_of c))
+      → QueryLines (map_in c) c.size 1 c.queries ls → Prints input (head_line (Ok (plan_of c)) ∷ ls)
 
 -- a line of a query
 pub record Answers (m : Map) (size number : ℕ) (q : Query) (l : List ℕ) : Type 0 where
@@ -87,10 +86,10 @@ module _ (input : List ℕ) where
 
   -- what is printed has as many lines as there are, and each is the line with its number
   pub printed_lines : (ls : List (List ℕ)) → Prints input ls → (h : Head) × Heads input h × (length ls ≡ count_of h) × All ls
-  printed_lines ls (Prints.refused f a) = (head.Refused f, a, refl, one _ (LineAt.first _ a))
-  printed_lines ls (Prints.answered c qs s a q) = (head.Floor (plan_of c), a, omega (arith, as_many _ _ q), by)
+  printed_lines ls (Prints.refused f a) = (Err f, a, refl, one _ (LineAt.first _ a))
+  printed_lines ls (Prints.answered c qs s a q) = (Ok (plan_of c), a, omega (arith, as_many _ _ q), by)
     where
-      by : All (head_line (head.Floor (plan_of c)) ∷ qs)
+      by : All (head_line (Ok (plan_of c)) ∷ qs)
       by zero h = LineAt.first _ a
       by (suc i) h =
           let b = each _ _ q i (omega (arith, as_many _ _ q)) in
@@ -110,12 +109,12 @@ module _ (input : List ℕ) where
 
   -- and these lines are what is printed
   pub lines_printed : (ls : List (List ℕ)) (h : Head) → Heads input h → length ls ≡ count_of h → All ls → Prints input ls
-  lines_printed [] (head.Refused f) a e g = absurd (omega arith)
-  lines_printed (l ∷ []) (head.Refused f) a e g =
+  lines_printed [] (Err f) a e g = absurd (omega arith)
+  lines_printed (l ∷ []) (Err f) a e g =
       subst (λ (x : List ℕ). Prints input (x ∷ [])) (one_line (LineAt.first _ a) (g 0 (omega arith))) (Prints.refused f a)
-  lines_printed (l ∷ (k ∷ ls)) (head.Refused f) a e g = absurd (omega arith)
-  lines_printed [] (head.Floor p) a e g = absurd (omega arith)
-  lines_printed (l ∷ ls) (head.Floor p) a e g =
+  lines_printed (l ∷ (k ∷ ls)) (Err f) a e g = absurd (omega arith)
+  lines_printed [] (Ok p) a e g = absurd (omega arith)
+  lines_printed (l ∷ ls) (Ok p) a e g =
       let o = head_opened a p refl in
       let c = o.taken.contents in
       let many : length ls ≡ length c.queries = omega (arith, ap (λ (k : Plan). k.queries) o.taken.plan) in

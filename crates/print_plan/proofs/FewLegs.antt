@@ -1,13 +1,13 @@
 -- No route on an accepted floor has more than 16,383 legs: each leg has a step, and a shortest way visits no cell
 -- twice.
-use mathlib.Core.Path.{◌≡◌, refl, ap, subst, sym}
+use mathlib.Core.Path.{◌≡◌, ap, subst, sym}
 use mathlib.Core.List.{List, [], ◌∷◌}
 use Prim.Native.Nat.{ℕ, ◌*◌, ◌+◌, ◌≤◌, ◌<◌}
 use native.Mathlib.Nat.{mul-add}
 use native.Mathlib.Omega.{arith}
 use lib.Arith.{digits_lt}
 use lib.ListN.{length}
-use Rattle.answers.specs.declared.Tested.TheVariants.{Passed}
+use Rattle.std.specs.Prelude.{Ok}
 use Rattle.lengths.specs.declared.Length.{Length}
 use Rattle.lengths.specs.Order.{steps}
 use Rattle.floor.specs.Floor.{Map, cells}
@@ -39,5 +39,5 @@ few_legs m s goal inside {start = start} {l} {ls} r =
     omega (arith, b, few_cells m s, legs_steps (steps_of m) ls r.legs_are.proper, ap steps (route_steps (steps_of m) r))
 
 -- the goal of a query that no test refuses is on the floor
-pub goal_inside : (m : Map) (q : Query) → query_tested m q ≡ Passed → goal_cell m q < cells m
-goal_inside m q e = let to = (ends_ready (asked m q) (cells m) _ refl e).to in digits_lt to.row_on to.column_on
+pub goal_inside : (m : Map) (q : Query) → query_tested m q ≡ Ok tt → goal_cell m q < cells m
+goal_inside m q e = let to = (ends_ready (asked m q) (cells m) e).to in digits_lt to.row_on to.column_on

@@ -9,9 +9,9 @@ use lib.Seq.{take_at, take-append-le, get_or-append_seam}
 use Rattle.print_text.specs.declared.Page.{Page}
 use Rattle.print_text.specs.inner.Page.{HasRoom}
 use Rattle.print_text.proofs.Pages.{wrote_nothing, wrote_then}
+use Rattle.print_line.specs.Head.{Head}
 use Rattle.print_plan.specs.declared.Printed.{Printed}
 use Rattle.print_plan.specs.Shown.{joined, Shown}
-use Rattle.print_line.specs.declared.Head.{Head}
 use Rattle.print_plan.specs.Lines.{Heads, count_of, LineAt}
 use Rattle.print_line.specs.LineRoom.{line_room}
 use Rattle.print_line.specs.inner.Written.{Writes}

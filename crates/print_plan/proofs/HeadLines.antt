@@ -13,69 +13,62 @@ use native.Mathlib.Omega.{arith}
 use lib.Dec.{ltb}
 use lib.ListN.{length, get_or, take, drop}
 use borrow.Author.Tests.{ltb-true, ltb-false}
+use Rattle.std.specs.Prelude.{Ok, Err}
 use Rattle.answers.specs.declared.Refusal.{Refusal}
-use Rattle.answers.specs.declared.Tested.{Tested}
-use Rattle.answers.specs.declared.Tested.TheVariants.{Passed, Refused}
-use Rattle.answers.specs.Refusing.{first_refusal, refuse_at}
-use Rattle.answers.specs.inner.Handing.{refusal_of}
-use Rattle.answers.proofs.Refusals.{all_passed, has_passed, refuse_passed, refuse_at_passed, refuse_at_refused}
+use Rattle.answers.specs.declared.Refusal.TheVariants.{SizeOutside, PlanBroken}
+use Rattle.answers.specs.Refusing.{Tested, first_refusal, refuse}
+use Rattle.answers.proofs.Refusals.{not_passed, all_passed, refuse_passed, refuse_refused}
 use Rattle.lengths.specs.Answers.{size_outside}
 use Rattle.floor.specs.Floor.{Map, map_of, largest_side}
 use Rattle.floor.specs.inner.Ready.{SoundFloor as FloorSound}
-use Rattle.floor.proofs.Tested.{floor_asked, largest_low}
+use Rattle.floor.proofs.Tested.{sound as floor_is_sound, largest_low}
 use Rattle.steps.proofs.OnMap.{few_cells}
 use Rattle.plan.specs.declared.Plan.{Plan}
 use Rattle.plan.specs.declared.Query.{Query}
-use Rattle.plan.specs.declared.Reading.{Reading}
-use Rattle.plan.specs.declared.Reading.TheVariants as reading
 use Rattle.plan.specs.Sound.{Contents, map_place}
 use Rattle.plan.specs.Reads.{plan_of, broken_at, Reads, query_at}
 use Rattle.plan.proofs.Places.{map_within, map_there, query_within, query_there}
 use Rattle.plan.proofs.Only.{reading_apart}
 use Rattle.print_text.specs.Text.{line}
-use Rattle.print_line.specs.declared.Head.{Head}
-use Rattle.print_line.specs.declared.Head.TheVariants as head
+use Rattle.print_line.specs.Head.{Head}
 use Rattle.print_plan.specs.Query.{QueryNumbers}
 use Rattle.print_plan.specs.Lines.{map_in, plan_tests, plan_head, Heads, count_of, no_query, LineAt}
 use Rattle.print_plan.specs.inner.Parts.{QueryLine, Taken, Opened}
 
 -- a refusal is no floor, and a sound plan's first line is its floor where no test refuses
-pub no_floor : {f : Refusal} {p : Plan} → head.Refused f ≡ head.Floor p → ⊥
-no_floor e = let z : ◌≡◌ {A = ℕ} 0 1 = cc in omega arith
+pub no_floor : {f : Refusal} {p : Plan} → ◌≡◌ {A = Head} (Err f) (Ok p) → ⊥
+no_floor e = not_passed e
 
-floor_passed : (t : Tested) (p q : Plan) → plan_head t p ≡ head.Floor q → (t ≡ Passed) × (q ≡ p)
-floor_passed Passed p q e = (refl, cc)
-floor_passed (Refused f) p q e = absurd (no_floor e)
-
-few : (t : Tested) (p : Plan) → p.queries ≤ 64 → count_of (plan_head t p) ≤ 65
-few Passed p h = omega arith
-few (Refused f) p h = omega arith
-
--- what a test's answer says
-pub refused_head : (t : Tested) (f r : Refusal) (p : Plan) → t ≡ Refused f → r ≡ refusal_of t → head.Refused r ≡ plan_head t p
-refused_head t f r p e s = ap head.Refused (s ∙ ap refusal_of e) ∙ sym (ap (λ (x : Tested). plan_head x p) e)
-
-pub passed_head : (t : Tested) (p : Plan) → t ≡ Passed → head.Floor p ≡ plan_head t p
-passed_head t p e = sym (ap (λ (x : Tested). plan_head x p) e)
-
-no_reading : {p : Plan} {f : Refusal} → reading.Sound p ≡ reading.Refused f → ⊥
-no_reading e = let z : ◌≡◌ {A = ℕ} 0 1 = cc in omega arith
-
-same_plan : {p q : Plan} → reading.Sound p ≡ reading.Sound q → p ≡ q
+same_plan : {p q : Plan} → ◌≡◌ {A = Head} (Ok p) (Ok q) → p ≡ q
 same_plan e = cc
 
-same_refusal : {f g : Refusal} → reading.Refused f ≡ reading.Refused g → f ≡ g
+same_refusal : {f g : Refusal} → ◌≡◌ {A = Head} (Err f) (Err g) → f ≡ g
 same_refusal e = cc
 
--- what the test of the input's length showed
-module _ (input : List ℕ) (t : Tested) (e : t ≡ refuse_at 14 4096 (ltb 4096 (length input))) where
-  pub long_head : (f r : Refusal) → t ≡ Refused f → r ≡ refusal_of t → Heads input (head.Refused r)
-  long_head f r p s =
-      let (long, same) = refuse_at_refused 14 4096 _ f (sym e ∙ p) in
-      Heads.too_long (ltb-true 4096 (length input) long) (ap head.Refused (s ∙ ap refusal_of p ∙ same))
+floor_passed : (t : Tested) (p q : Plan) → plan_head t p ≡ Ok q → (t ≡ Ok tt) × (q ≡ p)
+floor_passed (Ok u) p q e = (refl, same_plan (sym e))
+floor_passed (Err f) p q e = absurd (no_floor e)
 
-  pub short_input : t ≡ Passed → length input ≤ 4096
-  short_input p = ltb-false 4096 (length input) (refuse_at_passed 14 4096 _ (has_passed t e p))
+few : (t : Tested) (p : Plan) → p.queries ≤ 64 → count_of (plan_head t p) ≤ 65
+few (Ok u) p h = omega arith
+few (Err f) p h = omega arith
+
+-- what a test's answer says
+pub refused_head : (t : Tested) (f : Refusal) (p : Plan) → t ≡ Err f → Err f ≡ plan_head t p
+refused_head t f p e = sym (ap (λ (x : Tested). plan_head x p) e)
+
+pub passed_head : (t : Tested) (p : Plan) → t ≡ Ok tt → Ok p ≡ plan_head t p
+passed_head t p e = sym (ap (λ (x : Tested). plan_head x p) e)
+
+-- what the test of the input's length showed
+module _ (input : List ℕ) where
+  pub long_head : (f : Refusal) → Err f ≡ refuse (PlanBroken 4096) (ltb 4096 (length input)) → Heads input (Err f)
+  long_head f e =
+      let (long, same) = refuse_refused (PlanBroken 4096) f _ (sym e) in
+      Heads.too_long (ltb-true 4096 (length input) long) (ap Err (sym same))
+
+  pub short_input : Ok tt ≡ refuse (PlanBroken 4096) (ltb 4096 (length input)) → length input ≤ 4096
+  short_input e = ltb-false 4096 (length input) (refuse_passed (PlanBroken 4096) _ (sym e))
 
 module _ {input : List ℕ} where
   pub head_few : {h : Head} → Heads input h → count_of h ≤ 65
@@ -84,24 +77,24 @@ module _ {input : List ℕ} where
   head_few (Heads.sound c b s e) = omega (arith, ap count_of e, few (first_refusal (plan_tests (map_in c) c.size)) (plan_of c) s.few)
 
   -- a floor's plan is sound, and no test refuses it
-  pub head_opened : {h : Head} → Heads input h → (p : Plan) → h ≡ head.Floor p → Opened input p
+  pub head_opened : {h : Head} → Heads input h → (p : Plan) → h ≡ Ok p → Opened input p
   head_opened (Heads.too_long b e) p f = absurd (no_floor (sym e ∙ f))
   head_opened (Heads.broken at b r e) p f = absurd (no_floor (sym e ∙ f))
   head_opened (Heads.sound c b s e) p f =
       let (none, plan) = floor_passed _ (plan_of c) p (sym e ∙ f) in
       record { taken = record { contents = c; small = b; sound = s; plan = plan }; none = none }
 
-  pub opened_head : (p : Plan) (o : Opened input p) → Heads input (head.Floor (plan_of o.taken.contents))
+  pub opened_head : (p : Plan) (o : Opened input p) → Heads input (Ok (plan_of o.taken.contents))
   opened_head p o = Heads.sound o.taken.contents o.taken.small o.taken.sound (passed_head _ _ o.none)
 
   -- what the reader answered
-  pub read_sound : (r : Reading) (p : Plan) → length input ≤ 4096 → Reads input r → r ≡ reading.Sound p → Taken input p
-  read_sound r p b (Reads.sound c s e) f = record { contents = c; small = b; sound = s; plan = same_plan (sym f ∙ reading_apart r _ e) }
-  read_sound r p b (Reads.broken at s e) f = absurd (no_reading (sym f ∙ reading_apart r (broken_at at) e))
+  pub read_sound : (p : Plan) → length input ≤ 4096 → Reads input (Ok p) → Taken input p
+  read_sound p b (Reads.sound c s e) = record { contents = c; small = b; sound = s; plan = same_plan (reading_apart (Ok p) _ e) }
+  read_sound p b (Reads.broken at s e) = absurd (no_floor (sym (reading_apart (Ok p) (broken_at at) e)))
 
-  pub read_refused : (r : Reading) (g : Refusal) → length input ≤ 4096 → Reads input r → r ≡ reading.Refused g → Heads input (head.Refused g)
-  read_refused r g b (Reads.sound c s e) f = absurd (no_reading (sym (reading_apart r (reading.Sound (plan_of c)) e) ∙ f))
-  read_refused r g b (Reads.broken at s e) f = Heads.broken at b s (ap head.Refused (same_refusal (sym f ∙ reading_apart r (broken_at at) e)))
+  pub read_refused : (g : Refusal) → length input ≤ 4096 → Reads input (Err g) → Heads input (Err g)
+  read_refused g b (Reads.sound c s e) = absurd (no_floor (reading_apart (Err g) (Ok (plan_of c)) e))
+  read_refused g b (Reads.broken at s e) = Heads.broken at b s (reading_apart (Err g) (broken_at at) e)
 
   module _ (p : Plan) (t : Taken input p) (map : List ℕ) (there : map ≡ t.contents.map) where
     -- the floor that was tested is the plan's
@@ -169,13 +162,13 @@ module _ {input : List ℕ} where
     size_inside =
         let c = o.taken.contents in
         let all = all_passed (plan_tests (map_in c) c.size) o.none in
-        ap (λ (k : Plan). size_outside k.size) o.taken.plan ∙ refuse_passed 13 _ (search)
+        ap (λ (k : Plan). size_outside k.size) o.taken.plan ∙ refuse_passed SizeOutside _ (search)
 
     inside : FloorSound (map_in o.taken.contents)
     inside =
         let c = o.taken.contents in
         let all = all_passed (plan_tests (map_in c) c.size) o.none in
-        floor_asked largest_side (map_in c) _ refl (search) largest_low
+        floor_is_sound largest_side largest_low (map_in c) (search)
 
     pub floor_sound : (map : List ℕ) → map ≡ o.taken.contents.map → FloorSound (map_of p.width p.height map)
     floor_sound map there = subst FloorSound (sym (tested p o.taken map there)) inside

@@ -4,9 +4,10 @@ use mathlib.Core.List.{List, [], ◌∷◌}
 use Prim.Native.Nat.{ℕ, suc}
 use native.Mathlib.Omega.{arith}
 use lib.ListN.{length, get_or}
+use Rattle.std.specs.Prelude.{Err}
+use Rattle.answers.specs.Numbers.{number_of}
 use Rattle.answers.specs.declared.Refusal.{Refusal}
-use Rattle.answers.specs.declared.Tested.TheVariants.{Refused}
-use Rattle.answers.specs.Refusing.{first_refusal}
+use Rattle.answers.specs.Refusing.{Tested, first_refusal}
 use Rattle.answers.proofs.Refusals.{not_passed}
 use Rattle.lengths.specs.declared.Length.{Length}
 use Rattle.lengths.specs.Distance.{Spoken}
@@ -24,12 +25,11 @@ use Rattle.route_walker.proofs.OnFloor.{route_unique}
 use Rattle.route_legs.specs.Read.{Routes}
 use Rattle.route_legs.proofs.LegsOf.{legs_unique}
 use Rattle.print_text.specs.Text.{line}
-use Rattle.print_line.specs.declared.Head.{Head}
-use Rattle.print_line.specs.Head.{head_line}
+use Rattle.print_line.specs.Head.{Head, head_line}
 use Rattle.print_plan.specs.Query.{start_cell, goal_cell, QueryNumbers}
 use Rattle.print_plan.specs.Lines.{map_in, plan_tests, plan_head, broken_head, Heads, no_query, LineAt}
 
-same_refusal : {f g : Refusal} → Refused f ≡ Refused g → f ≡ g
+same_refusal : {f g : Refusal} → ◌≡◌ {A = Tested} (Err f) (Err g) → f ≡ g
 same_refusal e = cc
 
 -- a query has one answer
@@ -52,7 +52,7 @@ module _ (m : Map) (size number : ℕ) (q : Query) where
 
   pub one_query : {ns ks : List ℕ} → QueryNumbers m size number q ns → QueryNumbers m size number q ks → ns ≡ ks
   unfolding way_numbers
-  one_query (QueryNumbers.refused f a) (QueryNumbers.refused g b) = ap (λ (x : Refusal). number ∷ x.number ∷ []) (same_refusal (sym a ∙ b))
+  one_query (QueryNumbers.refused f a) (QueryNumbers.refused g b) = ap (λ (x : Refusal). number ∷ number_of x ∷ []) (same_refusal (sym a ∙ b))
   one_query (QueryNumbers.refused f a) (QueryNumbers.no_way z n) = absurd (not_passed (sym a ∙ z))
   one_query (QueryNumbers.refused f a) (QueryNumbers.way z l ls c r s) = absurd (not_passed (sym a ∙ z))
   one_query (QueryNumbers.no_way y m) (QueryNumbers.refused g b) = absurd (not_passed (sym b ∙ y))

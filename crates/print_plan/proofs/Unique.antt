@@ -7,10 +7,10 @@ use native.Mathlib.Omega.{arith}
 use native.Mathlib.Decide.{dec_le}
 use lib.ListN.{length, get_or, take, length-take}
 use lib.Seq.{get_or-take, ext_get_or}
+use Rattle.std.specs.Prelude.{Ok, Err}
 use Rattle.plan.specs.Reads.{plan_of}
 use Rattle.print_text.specs.Put.{put}
-use Rattle.print_line.specs.declared.Head.{Head}
-use Rattle.print_line.specs.declared.Head.TheVariants as head
+use Rattle.print_line.specs.Head.{Head}
 use Rattle.print_plan.specs.declared.Printed.{Printed}
 use Rattle.print_plan.specs.Shown.{joined, Shown}
 use Rattle.print_plan.specs.Lines.{Heads, count_of, LineAt}
@@ -22,12 +22,12 @@ pub line_below : {input : List ℕ} {i : ℕ} {l : List ℕ} → LineAt input i 
 line_below {input} {i} a h b = let (k, c, below) = by a in subst (λ (x : Head). i < count_of x) (one_head c b) below
   where
     some : (k : Head) → 0 < count_of k
-    some (head.Refused f) = omega arith
-    some (head.Floor p) = omega arith
+    some (Err f) = omega arith
+    some (Ok p) = omega arith
 
     by : {j : ℕ} {l : List ℕ} → LineAt input j l → (k : Head) × Heads input k × (j < count_of k)
     by (LineAt.first k c) = (k, c, some k)
-    by (LineAt.query c j ns s a h q) = (head.Floor (plan_of c), a, omega arith)
+    by (LineAt.query c j ns s a h q) = (Ok (plan_of c), a, omega arith)
 
 module _ (input : List ℕ) (from : ℕ) (old : List ℕ) where
   module _ {r r' : Printed} {new new' : List ℕ} (a : Shown input from old r new) (b : Shown input from old r' new') where

@@ -1,10 +1,9 @@
 -- REFERENCE, "What `ways` prints", line by line: what the first line says, which line has a number, counted from 0,
 -- and how many lines there are. That there is one list of lines with these numbers is proved in
 -- proofs/Apart.
-use Rattle.std.specs.Prelude.{◌≡◌, List, [], ◌∷◌, ℕ, suc, ◌+◌, ◌≤◌, ◌<◌, length, get_or}
-use Rattle.answers.specs.declared.Tested.{Tested}
-use Rattle.answers.specs.declared.Tested.TheVariants as tested
-use Rattle.answers.specs.Refusing.{refuse, first_refusal}
+use Rattle.std.specs.Prelude.{◌≡◌, List, [], ◌∷◌, ℕ, suc, ◌+◌, ◌≤◌, ◌<◌, length, get_or, Ok, Err}
+use Rattle.answers.specs.declared.Refusal.TheVariants.{SizeOutside, PlanBroken}
+use Rattle.answers.specs.Refusing.{Tested, refuse, first_refusal}
 use Rattle.lengths.specs.Answers.{size_outside}
 use Rattle.floor.specs.Floor.{Map, map_of, largest_side}
 use Rattle.floor.specs.Tests.{floor_tested}
@@ -14,9 +13,7 @@ use Rattle.plan.specs.Sound.{Contents, Sound}
 use Rattle.plan.specs.Break.{Broken}
 use Rattle.plan.specs.Reads.{plan_of}
 use Rattle.print_text.specs.Text.{line}
-use Rattle.print_line.specs.declared.Head.{Head}
-use Rattle.print_line.specs.declared.Head.TheVariants as head
-use Rattle.print_line.specs.Head.{head_line}
+use Rattle.print_line.specs.Head.{Head, head_line}
 use Rattle.print_plan.specs.Query.{QueryNumbers}
 
 -- the floor of a plan
@@ -25,16 +22,16 @@ map_in c = map_of c.width c.height c.map
 
 -- the tests of a sound plan, in their order
 abbrev pub plan_tests : Map → (size : ℕ) → List Tested
-plan_tests m size = floor_tested largest_side m ∷ refuse 13 (size_outside size) ∷ []
+plan_tests m size = floor_tested largest_side m ∷ refuse SizeOutside (size_outside size) ∷ []
 
 -- what the first line says of a sound plan: a refusal, or its floor
 abbrev pub plan_head : Tested → Plan → Head
-plan_head (tested.Refused f) p = head.Refused f
-plan_head tested.Passed p = head.Floor p
+plan_head (Err f) p = Err f
+plan_head (Ok u) p = Ok p
 
 -- 14 with an offset
 abbrev pub broken_head : ℕ → Head
-broken_head at = head.Refused (record { number = 14; place = at })
+broken_head at = Err (PlanBroken at)
 
 -- what the first line says
 pub data Heads (input : List ℕ) (h : Head) : Type 0 where
@@ -47,8 +44,8 @@ pub data Heads (input : List ℕ) (h : Head) : Type 0 where
 
 -- how many lines there are
 abbrev pub count_of : Head → ℕ
-count_of (head.Refused f) = 1
-count_of (head.Floor p) = 1 + p.queries
+count_of (Err f) = 1
+count_of (Ok p) = 1 + p.queries
 
 -- what stands past the end of the queries
 abbrev pub no_query : Query
@@ -59,5 +56,5 @@ pub data LineAt (input : List ℕ) : ℕ → List ℕ → Type 0 where
   first : (h : Head) → Heads input h → LineAt input 0 (head_line h)
   -- where the first line is a floor, a line for each query, numbered from 1
   query :
-      (c : Contents) (i : ℕ) (ns : List ℕ) → Sound input c → Heads input (head.Floor (plan_of c)) → i < length c.queries
+      (c : Contents) (i : ℕ) (ns : List ℕ) → Sound input c → Heads input (Ok (plan_of c)) → i < length c.queries
       → QueryNumbers (map_in c) c.size (suc i) (get_or c.queries i no_query) ns → LineAt input (suc i) (line ns)

@@ -1,9 +1,8 @@
 -- REFERENCE, "What `ways` prints": the numbers of a query's line.
-use Rattle.std.specs.Prelude.{◌≡◌, List, [], ◌∷◌, ℕ, length}
+use Rattle.std.specs.Prelude.{◌≡◌, List, [], ◌∷◌, ℕ, length, Ok, Err}
+use Rattle.answers.specs.Numbers.{number_of}
 use Rattle.answers.specs.declared.Refusal.{Refusal}
-use Rattle.answers.specs.declared.Tested.{Tested}
-use Rattle.answers.specs.declared.Tested.TheVariants as tested
-use Rattle.answers.specs.Refusing.{first_refusal}
+use Rattle.answers.specs.Refusing.{Tested, first_refusal}
 use Rattle.lengths.specs.declared.Length.{Length}
 use Rattle.lengths.specs.Distance.{Spoken}
 use Rattle.floor.specs.Floor.{Map, cells, spot_of, spot_cell}
@@ -31,11 +30,11 @@ goal_cell m q = spot_cell m (asked m q).goal
 -- the numbers of a query's line: its own, that of the answer and, of a way, the length, the distance and the legs. No 10
 -- is among them: the leg buffer has room for 16,383 legs, and no route has more
 pub data QueryNumbers (m : Map) (size number : ℕ) (q : Query) : List ℕ → Type 0 where
-  refused : (f : Refusal) → query_tested m q ≡ tested.Refused f → QueryNumbers m size number q (number ∷ f.number ∷ [])
+  refused : (f : Refusal) → query_tested m q ≡ Err f → QueryNumbers m size number q (number ∷ number_of f ∷ [])
   no_way :
-      query_tested m q ≡ tested.Passed → ((l : Length) → ¬ Reach (steps_of m) (Only (goal_cell m q)) (start_cell m q) l)
+      query_tested m q ≡ Ok tt → ((l : Length) → ¬ Reach (steps_of m) (Only (goal_cell m q)) (start_cell m q) l)
       → QueryNumbers m size number q (number ∷ 9 ∷ [])
   way :
-      query_tested m q ≡ tested.Passed → (l : Length) (legs : List Leg) (centimetres : ℕ)
+      query_tested m q ≡ Ok tt → (l : Length) (legs : List Leg) (centimetres : ℕ)
       → Routes (steps_of m) (Only (goal_cell m q)) (λ h. h) (start_cell m q) l legs → Spoken size l centimetres
       → QueryNumbers m size number q (number ∷ 0 ∷ l.straight ∷ l.diagonal ∷ centimetres ∷ length legs ∷ bytes legs)

@@ -2,7 +2,7 @@
 use Rattle.std.specs.Prelude.{◌≡◌, List, [], ◌∷◌, ◌++◌, ℕ, ◌+◌, ◌-◌, ◌≤◌, ◌<◌, length, get_or, take}
 use Rattle.print_text.specs.Put.{Put}
 use Rattle.print_line.specs.LineRoom.{line_room}
-use Rattle.print_line.specs.declared.Head.{Head}
+use Rattle.print_line.specs.Head.{Head}
 use Rattle.print_plan.specs.declared.Printed.{Printed}
 use Rattle.print_plan.specs.Lines.{Heads, count_of, LineAt}
 

@@ -1,21 +1,20 @@
 // What "ways" prints for any input bytes: its lines, as bytes in a lent buffer.
 #![tactic(auto)]
 
-ghost use Rattle.std.specs.Prelude.{◌≡◌, false, ◌*◌, ◌<◌, ◌≤◌, length};
+ghost use Rattle.std.specs.Prelude.{◌≡◌, ◌<◌, ◌≤◌, Ok};
 ghost use Rattle.io.specs.Counts.{IsPrefixLen};
-ghost use Rattle.lengths.specs.Answers.{size_outside};
-ghost use Rattle.floor.specs.Floor.{map_of};
-ghost use Rattle.floor.specs.inner.Ready.{SoundFloor};
+ghost use Rattle.floor.specs.Lent.{floor_map};
 ghost use Rattle.print_text.specs.inner.Page.{HasRoom};
-ghost use Rattle.print_line.specs.declared.Head.TheVariants as head;
 ghost use Rattle.print_line.specs.LineRoom.{line_room};
 ghost use Rattle.print_line.specs.inner.Written.{Writes};
 ghost use Rattle.print_plan.specs.Lines.{Heads, count_of, LineAt};
 ghost use Rattle.print_plan.specs.Shown.{Shown};
 ghost use Rattle.print_plan.specs.inner.Parts.{QueryLine};
 
+use answers::Refusal;
+use floor::{Floor, Map, Spot};
 use plan::{Plan, Query};
-use print_line::Head;
+use print_line::CellSize;
 use print_text::Page;
 
 mod heads;
@@ -42,48 +41,62 @@ struct Work {
 fn put_query(
     page: &mut Page<'_>,
     number: usize,
-    plan: Plan,
-    map: &[u8],
+    size: CellSize,
+    floor: &Floor,
     query: Query,
     table: &mut [u32; 16384],
     legs: &mut [u8; 32766],
 )
-    requires room { HasRoom line_room page.old }
-    requires size_inside { size_outside plan.size ≡ false }
-    requires sound_floor { SoundFloor (map_of plan.width plan.height map.now) }
-    ensures { Writes (QueryLine (map_of plan.width plan.height map.now) plan.size number query) page.old page.new }
+    requires { HasRoom line_room page.old }
+    ensures { Writes (QueryLine (floor_map floor.now) size.centimetres number query) page.old page.new }
 {
-    let cells = plan.height * plan.width;
-    let answer = route::find_route(
-        plan.width,
-        plan.height,
-        map,
-        query.start_col,
-        query.start_row,
-        query.goal_col,
-        query.goal_row,
-        &mut table[..cells],
-        legs,
-    );
-    print_line::put_answer(page, number, plan.size as u32, answer, legs)
+    let map = Map {
+        width: floor.width,
+        height: floor.height,
+        bytes: floor.bytes,
+    };
+    let start = Spot {
+        column: query.start_col,
+        row: query.start_row,
+    };
+    let goal = Spot {
+        column: query.goal_col,
+        row: query.goal_row,
+    };
+    let cells = floor.cells();
+    let answer = route::find_route(&map, start, goal, &mut table[..cells], legs);
+    print_line::put_answer(page, number, size, answer, legs)
 }
 
 // Writes the line of query `number`, from 1.
 fn put_numbered(page: &mut Page<'_>, input: &[u8], plan: Plan, number: usize, work: &mut Work)
     requires room { HasRoom line_room page.old }
-    requires heads { Heads input.now (head.Floor plan) }
+    requires heads { Heads input.now (Ok plan) }
     requires number_in_plan { (0 < number) × (number ≤ plan.queries) }
     ensures { Writes (LineAt input.now number) page.old page.new }
 {
     let query = plan::query_at(input, plan.first_query + 12 * (number - 1));
-    let start = plan.map_at;
     let end = plan.map_at + plan.map_len;
+    let floor = Floor {
+        width: plan.width,
+        height: plan.height,
+        bytes: &input[plan.map_at..end],
+    };
+    let size = CellSize {
+        centimetres: plan.size as u32,
+    };
     let Work { table, legs } = work;
-    put_query(page, number, plan, &input[start..end], query, table, legs)
+    put_query(page, number, size, &floor, query, table, legs)
 }
 
 // Writes line `index`, from 0.
-fn put_line(page: &mut Page<'_>, input: &[u8], head: Head, index: usize, work: &mut Work)
+fn put_line(
+    page: &mut Page<'_>,
+    input: &[u8],
+    head: Result<Plan, Refusal>,
+    index: usize,
+    work: &mut Work,
+)
     requires room { HasRoom line_room page.old }
     requires heads { Heads input.now head }
     requires index_in_bounds { index < count_of head }
@@ -93,8 +106,8 @@ fn put_line(page: &mut Page<'_>, input: &[u8], head: Head, index: usize, work: &
         return print_line::put_head(page, head);
     }
     match head {
-        Head::Refused(_) => unreachable!(),
-        Head::Floor(plan) => put_numbered(page, input, plan, index, work),
+        Err(_) => unreachable!(),
+        Ok(plan) => put_numbered(page, input, plan, index, work),
     }
 }
 

@@ -10,7 +10,7 @@ use Rattle.print_text.proofs.Page.put_fields.Reads as put-fields
 use Rattle.print_text.proofs.Page.put_numbers.Reads as put-numbers
 use Rattle.print_text.proofs.Page.put_line.Reads as put-line
 use Rattle.print_text.proofs.Page.put_word.Reads as put-word
-use Rattle.print_text.proofs.Page.end_line.Reads as end-line
+use Rattle.print_text.proofs.Page.put_newline.Reads as put-newline
 
 abbrev Same : Page → Page → Type 0
 Same new new' = (new.at ≡ new'.at) × (new.out.now ≡ new'.out.now)
@@ -36,5 +36,5 @@ put_line_only κs a r r' x x' p q = wrote_only p.0 q.0
 pub put_word_only : (κs : _) (a : _) (r r' : _) (x x' : _) → put-word.Post κs a r x → put-word.Post κs a r' x' → Same x.0.now x'.0.now
 put_word_only κs a r r' x x' p q = wrote_only p q
 
-pub end_line_only : (κs : _) (a : _) (r r' : _) (x x' : _) → end-line.Post κs a r x → end-line.Post κs a r' x' → Same x.0.now x'.0.now
-end_line_only κs a r r' x x' p q = wrote_only p q
+pub put_newline_only : (κs : _) (a : _) (r r' : _) (x x' : _) → put-newline.Post κs a r x → put-newline.Post κs a r' x' → Same x.0.now x'.0.now
+put_newline_only κs a r r' x x' p q = wrote_only p q

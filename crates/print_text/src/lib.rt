@@ -94,7 +94,7 @@ impl<'a> Page<'a> {
         ensures at_most { self.new.at ≤ self.old.at + numbers_room (length numbers.now) + 1 }
     {
         self.put_numbers(numbers);
-        self.end_line();
+        self.put_newline();
     }
 
     // Writes a word.
@@ -108,7 +108,7 @@ impl<'a> Page<'a> {
     }
 
     // Writes a newline, which ends a line.
-    pub fn end_line(&mut self)
+    pub fn put_newline(&mut self)
         requires { HasRoom 1 self.old }
         ensures { Wrote self.old (newline ∷ []) self.new }
     {

@@ -1,13 +1,9 @@
 -- `fill_load::load_map` meets its contract. The invariant: the rows before this one are loaded.
-use mathlib.Core.Path.{refl, ◌∙◌}
+use mathlib.Core.Path.{◌∙◌}
 use native.Mathlib.Omega.{arith}
 use Rattle.floor.specs.Lent.{floor_map}
-use Rattle.fill_load.proofs.FourNumbers.{fours_of}
 use Rattle.fill_load.proofs.MapLoaded.{prefix_row}
 use Rattle.fill_load.proofs.load_map.Goals as goal
-
-pub invariant_of-fours : goal.invariant_of-fours
-invariant_of-fours c = record { right = fours_of _ refl refl }
 
 pub loop-row-preserved : goal.loop-row-preserved
 loop-row-preserved c = record {

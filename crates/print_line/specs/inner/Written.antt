@@ -1,11 +1,10 @@
 -- What the parts of a line leave in the buffer.
-use Rattle.std.specs.Prelude.{List, [], ◌∷◌, ℕ, ◌+◌, ◌*◌, ◌≤◌, length, take}
+use Rattle.std.specs.Prelude.{List, [], ◌∷◌, ℕ, ◌+◌, ◌*◌, ◌≤◌, length, take, Result, Ok, Err}
 use Rattle.answers.specs.declared.Refusal.{Refusal}
 use Rattle.lengths.specs.Distance.{Spoken}
 use Rattle.lengths.specs.inner.AtMost.{Within}
 use Rattle.route_legs.specs.declared.Way.{Way}
-use Rattle.route.specs.declared.Answer.{Answer}
-use Rattle.route.specs.declared.Answer.TheVariants as answer
+use Rattle.answers.specs.Numbers.{number_of}
 use Rattle.print_text.specs.Text.{line}
 use Rattle.print_text.specs.declared.Page.{Page}
 use Rattle.print_text.specs.inner.Page.{Wrote}
@@ -29,9 +28,9 @@ pub record WayFits (w : Way) (legs : List ℕ) : Type 0 where
   pub there : 2 * w.legs ≤ length legs
 
 -- an answer whose line there is room for
-abbrev pub Fits : Answer → List ℕ → Type 0
-Fits (answer.Way w) legs = WayFits w legs
-Fits (answer.Refused r) legs = Unit {0}
+abbrev pub Fits : Result Way Refusal → List ℕ → Type 0
+Fits (Ok w) legs = WayFits w legs
+Fits (Err r) legs = Unit {0}
 
 -- the numbers of a way's line
 abbrev pub way_numbers : ℕ → ℕ → Way → List ℕ → List ℕ
@@ -39,7 +38,7 @@ way_numbers number centimetres w legs =
     number ∷ 0 ∷ w.length.straight ∷ w.length.diagonal ∷ centimetres ∷ w.legs ∷ take (2 * w.legs) legs
 
 -- the line of an answer
-pub data AnswerLine (size number : ℕ) (legs : List ℕ) : Answer → List ℕ → Type 0 where
+pub data AnswerLine (size number : ℕ) (legs : List ℕ) : Result Way Refusal → List ℕ → Type 0 where
   way : (w : Way) (centimetres : ℕ) → Spoken size w.length centimetres
-      → AnswerLine size number legs (answer.Way w) (line (way_numbers number centimetres w legs))
-  refused : (f : Refusal) → AnswerLine size number legs (answer.Refused f) (line (number ∷ f.number ∷ []))
+      → AnswerLine size number legs (Ok w) (line (way_numbers number centimetres w legs))
+  refused : (f : Refusal) → AnswerLine size number legs (Err f) (line (number ∷ number_of f ∷ []))

@@ -8,4 +8,4 @@ returns-then-index-eq0 c =
     record { bytes = head_line c.args.head; is = rw c.if-index-eq0.true (LineAt.first _ c.requires.heads); line_put = c.put_head.ensures }
 
 pub put_numbered-requires-clause-heads : goal.put_numbered-requires-clause-heads
-put_numbered-requires-clause-heads c = rw c.in-Floor.is at c.requires.heads
+put_numbered-requires-clause-heads c = rw c.in-Ok.is at c.requires.heads

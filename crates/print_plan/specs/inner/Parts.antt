@@ -1,6 +1,5 @@
 -- What the parts of printing answer and leave in the buffer.
-use Rattle.std.specs.Prelude.{◌≡◌, List, [], ℕ, ◌+◌, ◌≤◌, ◌<◌, length, get_or, take}
-use Rattle.answers.specs.declared.Tested.TheVariants.{Passed}
+use Rattle.std.specs.Prelude.{◌≡◌, List, [], ℕ, ◌+◌, ◌≤◌, ◌<◌, length, get_or, take, Ok}
 use Rattle.answers.specs.Refusing.{first_refusal}
 use Rattle.floor.specs.Floor.{Map}
 use Rattle.plan.specs.declared.Plan.{Plan}
@@ -37,4 +36,4 @@ pub record Progress (input : List ℕ) (from : ℕ) (start page : Page) (next : 
 -- a sound plan that is not too long, and no refusal of it
 pub record Opened (input : List ℕ) (p : Plan) : Type 0 where
   pub taken : Taken input p
-  pub none : first_refusal (plan_tests (map_in taken.contents) taken.contents.size) ≡ Passed
+  pub none : first_refusal (plan_tests (map_in taken.contents) taken.contents.size) ≡ Ok tt

@@ -1,7 +1,8 @@
 -- The first cell of the middle row that differs meets its contract: where none differ, each is right, and else it is the
 -- first that the test finds.
 use mathlib.Core.Path.{◌≡◌, sym, ◌∙◌}
-use mathlib.Core.Bool.{true, false}
+use mathlib.Core.Bool.{Bool, true, false}
+use Prim.Native.Nat.{ℕ}
 use Rattle.std.proofs.Common.{rules, tests}
 use Rattle.std.proofs.lemmas.Iterator.{first_from_Range}
 use Rattle.check_rows.specs.inner.Window.{differs_at}
@@ -14,7 +15,7 @@ returns-then-differing_in-eq0 c =
 
 pub returns : goal.returns
 returns c =
-    let x = c.args.self.now.numbers in
-    found_first (differs_at x c.args.goal c.args.first) _ _
-    (first_from_Range _ _ _ _ (λ i. differs_at x c.args.goal c.args.first i ≡ true) (λ i. differs_at x c.args.goal c.args.first i ≡ false) c.find.ensures.ran
+    let differs : ℕ → Bool = differs_at c.args.self.now.numbers c.args.row.goal c.args.row.first in
+    found_first differs _ _
+    (first_from_Range _ _ _ _ (λ i. differs i ≡ true) (λ i. differs i ≡ false) c.find.ensures.ran
     (λ i q k. search (rules, tests)) (λ i q k. (search rules, search (rules, tests))))

@@ -1,8 +1,8 @@
 -- The table of the numbers of four cells: that a table is one, by one test that is computed over all its entries; and
 -- the bits of a byte by its four-bit parts.
-use mathlib.Core.Path.{◌≡◌, ap, ◌∙◌}
+use mathlib.Core.Path.{◌≡◌, refl, ap, ◌∙◌}
 use mathlib.Core.Bool.{Bool, true}
-use mathlib.Core.List.{List, []}
+use mathlib.Core.List.{List, [], ◌∷◌}
 use Prim.Native.Nat.{ℕ, zero, suc, ◌-◌, ◌*◌, ◌/◌, ◌%◌, ◌<◌, ◌^◌}
 use native.Mathlib.Omega.{arith}
 use lib.ListN.{get_or, length}
@@ -29,6 +29,31 @@ fours_of t n e = record {
       let (size, all) = both_true (eqb (length row) 4) (every (right q) row) (entry four_right t [] e q (omega arith)) in
       eqb-true _ _ (entry (right q) row 0 all k (omega (arith, eqb-true (length row) 4 size)));
 }
+
+-- the code's table
+unfoldable pub fours : List (List ℕ)
+fours =
+    (unreached ∷ unreached ∷ unreached ∷ unreached ∷ [])
+    ∷ (0 ∷ unreached ∷ unreached ∷ unreached ∷ [])
+    ∷ (unreached ∷ 0 ∷ unreached ∷ unreached ∷ [])
+    ∷ (0 ∷ 0 ∷ unreached ∷ unreached ∷ [])
+    ∷ (unreached ∷ unreached ∷ 0 ∷ unreached ∷ [])
+    ∷ (0 ∷ unreached ∷ 0 ∷ unreached ∷ [])
+    ∷ (unreached ∷ 0 ∷ 0 ∷ unreached ∷ [])
+    ∷ (0 ∷ 0 ∷ 0 ∷ unreached ∷ [])
+    ∷ (unreached ∷ unreached ∷ unreached ∷ 0 ∷ [])
+    ∷ (0 ∷ unreached ∷ unreached ∷ 0 ∷ [])
+    ∷ (unreached ∷ 0 ∷ unreached ∷ 0 ∷ [])
+    ∷ (0 ∷ 0 ∷ unreached ∷ 0 ∷ [])
+    ∷ (unreached ∷ unreached ∷ 0 ∷ 0 ∷ [])
+    ∷ (0 ∷ unreached ∷ 0 ∷ 0 ∷ [])
+    ∷ (unreached ∷ 0 ∷ 0 ∷ 0 ∷ [])
+    ∷ (0 ∷ 0 ∷ 0 ∷ 0 ∷ [])
+    ∷ []
+
+pub fours_right : Fours fours
+unfolding fours
+fours_right = fours_of fours refl refl
 
 -- a fact of the eight bits of a byte is eight facts
 eight : (P : ℕ → Type 0) → P 0 → P 1 → P 2 → P 3 → P 4 → P 5 → P 6 → P 7 → (k : ℕ) → k < 8 → P k
