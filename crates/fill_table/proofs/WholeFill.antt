@@ -24,10 +24,9 @@ use Rattle.table_theory.specs.Filled.{Filled}
 use Rattle.table_theory.proofs.Lists.{get_or_any, each}
 use Rattle.fill_steps.specs.inner.Work.{unreached, stride, largest, goal_number, at, spot, OffBorder}
 use Rattle.fill_bands.specs.inner.Solved.{Loaded, Goals, Solved}
-use Rattle.fill_load.specs.inner.Load.{number_of, loaded, Prefix}
+use Rattle.fill_load.specs.inner.Load.{number_of, loaded, Tall, Cleared, Prefix}
 use Rattle.table_theory.specs.inner.Written.{Written}
 use Rattle.fill_entries.specs.inner.Entries.{entry_of, AllSettled, entry_of_cell}
-use Rattle.fill_table.specs.inner.Scratch.{Scratch}
 use Rattle.fill_steps.proofs.Changed.{waiting_set}
 use Rattle.fill_table.proofs.OnWork.{Mapped, place_of, same_cell}
 use Rattle.fill_table.proofs.Shortest.{keyed, GoalNumbers, says}
@@ -178,6 +177,15 @@ module _ (m : Map) (goal entries : ℕ) (a : Ready m goal entries) (x : List ℕ
 -- what a goal on an accepted floor and a table with an entry for each cell have
 pub aimed : (g : Goal) (entries : ℕ) → entries ≡ cells (floor_map g.floor) → Ready (floor_map g.floor) g.cell entries
 aimed g entries e = record { fitting = record { sound = g.floor.sound; size = e }; chosen = g.chosen }
+
+-- scratch for this floor: a work array of blocked cells
+pub record Scratch (m : Map) (x : List ℕ) : Type 0 where
+  pub cleared : Cleared x
+  pub tall : Tall m x
+  pub few : length x ≤ largest
+
+pub scratch_few : (n : ℕ) → length (replicate {A = ℕ} n 0) ≡ n
+scratch_few n = length-replicate n 0
 
 -- new scratch: the array is made of zeros
 pub scratch : (m : Map) (n : ℕ) → n ≤ largest → (m.height + 2) * stride ≤ n → Scratch m (replicate n 0)

@@ -9,7 +9,6 @@ ghost use Rattle.steps.specs.Step.{steps_of};
 ghost use Rattle.steps.specs.Way.{Only};
 ghost use Rattle.table_theory.specs.Filled.{Filled};
 ghost use Rattle.fill_steps.specs.inner.Work.{stride, largest};
-ghost use Rattle.fill_table.specs.inner.Scratch.{Scratch};
 
 use calls::Goal;
 
@@ -20,29 +19,20 @@ const SMALL: usize = 2600;
 
 const LARGE: usize = 16900;
 
-// Fills the table over lent scratch. The bands keep their queue in the lent table, until the entries are stored.
-fn fill_in(work: &mut [u32], goal: &Goal, table: &mut [u32])
-    requires scratch { Scratch (floor_map goal.now.floor) work.old }
-    requires table_len { length table.old ≡ cells (floor_map goal.now.floor) }
-    ensures { Filled (steps_of (floor_map goal.now.floor)) (Only goal.now.cell) (cells (floor_map goal.now.floor)) table.new }
-{
-    let floor = &goal.floor;
-    fill_load::load_map(work, floor);
-    let place = (goal.cell / floor.width + 1) * fill_steps::STRIDE + goal.cell % floor.width + 1;
-    work[place] = fill_steps::GOAL;
-    let goals = [place as u32];
-    fill_bands::all_bands(work, table, &goals);
-    fill_entries::store_table(work, floor, table);
-}
-
-// Fills the table over a scratch of so many places, which are enough for the floor and its border.
+// Fills the table over a scratch of so many places, enough for the floor and its border. The bands keep their queue in
+// the lent table, until the entries are stored.
 fn fill_over<const PLACES: usize>(goal: &Goal, table: &mut [u32])
     requires room { ((goal.now.floor.height + 2) * stride ≤ PLACES) × (PLACES ≤ largest) }
     requires table_len { length table.old ≡ cells (floor_map goal.now.floor) }
     ensures { Filled (steps_of (floor_map goal.now.floor)) (Only goal.now.cell) (cells (floor_map goal.now.floor)) table.new }
 {
     let mut work = [0u32; PLACES];
-    fill_in(&mut work, goal, table);
+    let floor = &goal.floor;
+    fill_load::load_map(&mut work, floor);
+    let place = (goal.cell / floor.width + 1) * fill_steps::STRIDE + goal.cell % floor.width + 1;
+    work[place] = fill_steps::GOAL;
+    fill_bands::all_bands(&mut work, table, &[place as u32]);
+    fill_entries::store_table(&work, floor, table);
 }
 
 // Fills the table: each entry is the shortest length from its cell to the goal, or the mark.
