@@ -52,7 +52,7 @@ fn entry_of(number: u32) -> u32
 }
 
 // The entries of one row. The floor's width is read once, before the loop, so that four entries are made at once: with
-// the width read at each entry a fill takes a fifth more instructions.
+// the width read at each entry a fill takes a sixth more instructions.
 fn store_row(work: &[u32], floor: &Floor, table: &mut [u32], row: usize)
     requires all_settled { AllSettled floor.now.width floor.now.height work.now }
     requires row_on { row < floor.now.height }

@@ -26,6 +26,6 @@ returns c =
       queue_size = l.queue_size;
       did = record {
         offer = rw (← e) (lowered_made _ _ _ _ _ _ _ _ _ _ c.args.self.now.room l.did (omega (arith, n, c.requires.counts)));
-        mask = rw (l.did.before, e) at c.mask_of.ensures;
+        mask = rw (l.did.before, e) at c.mask_of-mask.ensures;
       };
     }
