@@ -94,6 +94,7 @@ pub fn all_bands(work: &mut [u32], queue: &mut [u32], goals: &[u32])
     let mut mid = 0;
     let mut fresh = 0;
     let mut limit = 3 * STEP_STRAIGHT;
+    // No `for`: how many bands there are shows as the queue ends.
     while mid < wave.tail {
         let tail = wave.tail;
         mid = one_band(&mut wave, mid, fresh, limit);

@@ -95,6 +95,8 @@ pub struct Wave<'a> {
     pub ghost room: { QueueRoom work.now queue.now tail },
 }
 
+// That a place is off the border is a fact of the place in this array, so it stays a clause: a struct of both would hold
+// the wave's own array.
 impl Wave<'_> {
     ghost use Rattle.fill_steps.specs.inner.Work.{at, OffBorder};
     ghost use Rattle.fill_steps.specs.inner.Taken.{Lowered, OfferMade, SideStep, SideAfter, TakenLeft};

@@ -1,6 +1,6 @@
 // The library as a headset links it: every entry point as a C function on numbers, slices and plain structs. A slice
-// is a pointer and then a length. Each function promises what its Rattle function promises, told by the struct's
-// fields, and asks nothing of its caller.
+// is a pointer and then a length, a refusal is its number, and what belongs together is passed apart, as C has it. Each
+// function promises what its Rattle function promises, told by the struct's fields, and asks nothing of its caller.
 #![tactic(auto)]
 
 ghost use Rattle.floor.specs.Floor.{map_of, spot_of};

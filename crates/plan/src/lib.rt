@@ -21,7 +21,7 @@ pub struct Plan {
     pub first_query: usize,
 }
 
-// A query: the start's column and row, and the goal's.
+// A query: the start's column and row, and the goal's, four numbers as the record has them: this crate knows no floor.
 #[derive(Clone, Copy)]
 pub struct Query {
     pub start_col: usize,
@@ -58,6 +58,9 @@ struct Content {
 
 // The most queries of a plan.
 const MOST_QUERIES: usize = 64;
+
+// Bytes and offset stay two parameters below: of a reader that moves each contract would also say that its bytes stay, and
+// where it stands.
 
 // The number in the 2 bytes at an offset, little-endian.
 #[tactic(auto, using(crate::proofs::Numbers::number_there))]

@@ -20,6 +20,8 @@ mod cell_size;
 
 pub use cell_size::CellSize;
 
+// Only some pages have room for a line, so that is a clause of each function that writes one.
+
 // Writes the line "floor", width, height, cell size.
 fn put_floor(page: &mut Page<'_>, plan: Plan)
     requires { HasRoom line_room page.old }

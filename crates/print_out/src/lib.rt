@@ -16,6 +16,7 @@ pub fn read_full<R: Read>(reader: &mut R, buffer: &mut [u8]) -> io::Result<usize
     ensures end { IfOk result (λ n. n < length buffer.new → IsAtEnd (R.remaining reader.new)) }
 {
     let mut done = 0;
+    // No `for`: a read puts as many bytes as it has.
     while done < buffer.len() {
         let count = reader.read(&mut buffer[done..])?;
         if count == 0 {

@@ -73,7 +73,8 @@ impl<'a> Page<'a> {
         }
     }
 
-    // Writes the numbers, parted by one blank.
+    // Writes the numbers, parted by one blank. Beside `put_fields` it writes other text, over numbers of another type: one
+    // function of both would take a trait and say no less.
     pub fn put_numbers(&mut self, numbers: &[usize])
         requires { HasRoom (numbers_room (length numbers.now)) self.old }
         ensures wrote { Wrote self.old (fields numbers.now) self.new }
@@ -133,7 +134,8 @@ impl<'a> Page<'a> {
         self.put_digits(n);
     }
 
-    // Writes a number in decimal, its tens and then its last digit, where there is just the room for it.
+    // Writes a number in decimal, its tens and then its last digit, where there is just the room for it. The library's
+    // `write!` promises the text only where it succeeds, and not that it does.
     fn put_digits(&mut self, n: usize)
         requires { HasRoom (length (decimal n)) self.old }
         ensures { Wrote self.old (decimal n) self.new }

@@ -24,7 +24,9 @@ pub struct Walk<'a> {
     pub ghost readable: { Readable (map_of floor.width floor.height floor.bytes.now) table.now },
 }
 
-// A walker: the cell it stands on, the length so far, and the heading it takes next, none at the goal.
+// A walker: the cell it stands on, the length so far, and the heading it takes next, none at the goal. That it stands on
+// a walk (`Stands`), and its cell on the walk's floor, stays a clause of each step: as an invariant of a walker that holds
+// its walk, each contract would say that the walk stays the same.
 #[derive(Clone, Copy)]
 pub struct Walker {
     pub cell: usize,
@@ -173,6 +175,7 @@ impl Walk<'_> {
         let heading = walker.next?;
         let mut after = walker;
         let mut count: usize = 0;
+        // No `for`: the run ends where the heading changes.
         while after.next == Some(heading) {
             after = self.step(after);
             count += 1;
