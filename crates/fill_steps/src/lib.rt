@@ -85,8 +85,8 @@ fn diagonal_of(number: u32) -> u32
     }
 }
 
-// The wave that spreads over the work array: the cells' numbers, and the queue of the cells that were reached, which ends
-// at the tail and has room for all that wait.
+// The wave that spreads over the work array: the cells' numbers, and the queue of the cells that were reached, which
+// ends at the tail and has room for all that wait.
 #[derive(Drop)]
 pub struct Wave<'a> {
     pub work: &'a mut [u32],
@@ -95,8 +95,8 @@ pub struct Wave<'a> {
     pub ghost room: { QueueRoom work.now queue.now tail },
 }
 
-// That a place is off the border is a fact of the place in this array, so it stays a clause: a struct of both would hold
-// the wave's own array.
+// That a place is off the border is a fact of the place in this array, so it stays a clause: a struct of both would
+// hold the wave's own array.
 impl Wave<'_> {
     ghost use Rattle.fill_steps.specs.inner.Work.{at, OffBorder};
     ghost use Rattle.fill_steps.specs.inner.Taken.{Lowered, OfferMade, SideStep, SideAfter, TakenLeft};

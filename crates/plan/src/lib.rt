@@ -59,8 +59,8 @@ struct Content {
 // The most queries of a plan.
 const MOST_QUERIES: usize = 64;
 
-// Bytes and offset stay two parameters below: of a reader that moves each contract would also say that its bytes stay, and
-// where it stands.
+// Bytes and offset stay two parameters below: of a reader that moves each contract would also say that its bytes stay,
+// and where it stands.
 
 // The number in the 2 bytes at an offset, little-endian.
 #[tactic(auto, using(crate::proofs::Numbers::number_there))]

@@ -73,8 +73,8 @@ impl<'a> Page<'a> {
         }
     }
 
-    // Writes the numbers, parted by one blank. Beside `put_fields` it writes other text, over numbers of another type: one
-    // function of both would take a trait and say no less.
+    // Writes the numbers, parted by one blank. Beside `put_fields` it writes other text, over numbers of another type:
+    // one function of both would take a trait and say no less.
     pub fn put_numbers(&mut self, numbers: &[usize])
         requires { HasRoom (numbers_room (length numbers.now)) self.old }
         ensures wrote { Wrote self.old (fields numbers.now) self.new }

@@ -24,9 +24,9 @@ pub struct Walk<'a> {
     pub ghost readable: { Readable (map_of floor.width floor.height floor.bytes.now) table.now },
 }
 
-// A walker: the cell it stands on, the length so far, and the heading it takes next, none at the goal. That it stands on
-// a walk (`Stands`), and its cell on the walk's floor, stays a clause of each step: as an invariant of a walker that holds
-// its walk, each contract would say that the walk stays the same.
+// A walker: the cell it stands on, the length so far, and the heading it takes next, none at the goal. That it stands
+// on a walk (`Stands`), and its cell on the walk's floor, stays a clause of each step: as an invariant of a walker that
+// holds its walk, each contract would say that the walk stays the same.
 #[derive(Clone, Copy)]
 pub struct Walker {
     pub cell: usize,

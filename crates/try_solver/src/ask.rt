@@ -136,8 +136,8 @@ pub struct Call {
 // How many values an answer has room for.
 pub const VALUES: usize = 4;
 
-// A refusal: its number, and its place, which is 0 where it has none. The number of the document stays a number here: an
-// enum would be the library's again, with which this solver shares no definition.
+// A refusal: its number, and its place, which is 0 where it has none. The number of the document stays a number here:
+// an enum would be the library's again, with which this solver shares no definition.
 #[derive(Clone, Copy, PartialEq, Eq)]
 pub struct Refused {
     pub number: usize,
