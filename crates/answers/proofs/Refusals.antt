@@ -50,38 +50,6 @@ unfolding refuse
 refuse_refused f g true e = (refl, cc)
 refuse_refused f g false e = absurd (not_passed (sym e))
 
--- a test that answers that it is passed, passed
-pub has_passed : {t : Tested} (r : Tested) → r ≡ t → r ≡ Ok tt → t ≡ Ok tt
-has_passed r e p = sym e ∙ p
-
--- the same of a call that came to a value
-pub came_through : {A : Type 0} {t : Tested} (r : Result A Refusal) (a : A) → outcome r ≡ t → r ≡ Ok a → t ≡ Ok tt
-came_through r a e p = sym e ∙ ap outcome p
-
--- What `search` is handed to close the goals of code that strings tests together. The search finds each test's answer
--- by the test, so no proof says where in the code a test stands.
-
--- this test passed, and the answer is that of the later ones
-pub passes_here : (q r t : Tested) (ts : List Tested) → q ≡ t → q ≡ Ok tt → r ≡ first_refusal ts → r ≡ first_refusal (t ∷ ts)
-unfolding first_refusal
-passes_here q r (Ok u) ts e p d = d
-passes_here q r (Err f) ts e p d = absurd (not_passed (sym e ∙ p))
-
--- this test refuses, and its answer is the answer
-pub refuses_here : (r t : Tested) (ts : List Tested) (f : Refusal) → r ≡ t → r ≡ Err f → r ≡ first_refusal (t ∷ ts)
-unfolding first_refusal
-refuses_here r (Ok u) ts f e h = absurd (not_passed (sym h ∙ e))
-refuses_here r (Err g) ts f e h = e
-
-pub ruleset refusing = (passes_here, refuses_here)
-
--- no test is left
-pub all_pass : Ok tt ≡ first_refusal []
-unfolding first_refusal
-all_pass = refl
-
-pub ruleset passing = (passes_here, all_pass)
-
 module _ {K : Type 0} {D : Given → Type 0} where
   -- the first refusal is given, with everything kept
   pub refused_given : (tested : Tested) (f : Refusal) → tested ≡ Err f → K → Answered tested K D (refused f)

@@ -48,7 +48,7 @@ impl Refusal {
         }
     }
 
-    // The place, count or length that comes with it, else 0.
+    // The leg count, cell or offset that comes with it, else 0.
     pub fn place(self) -> usize
         ensures { result ≡ place_of self }
     {

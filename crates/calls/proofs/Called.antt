@@ -48,20 +48,6 @@ pub placed : (m : Map) (from to : Spot) (entries : ℕ) (e : Ends) → Aimed m t
     → Placed m from to entries e
 placed m from to entries e a start = record { aimed = a; start = subst (λ (n : Map). e.start ≡ spot_cell n from) a.map start }
 
-pub ready : (m : Map) (s : Spot) (entries x : ℕ) → x ≡ spot_cell m s → Fitting m entries → Standing m s → Ready m x entries
-ready m s entries x e f p = record { fitting = f; chosen = open_cell m s x e p }
-
--- no test of a call to a goal refused
-pub record ReadyGoal (a : ToGoal) (entries : ℕ) : Type 0 where
-  pub fitting : Fitting a.map entries
-  pub to : Standing a.map a.goal
-
-pub goal_ready : (a : ToGoal) (entries : ℕ) → first_refusal (goal_tests a entries) ≡ Ok tt → ReadyGoal a entries
-unfolding goal_tests
-goal_ready a entries e =
-    let all = all_passed (goal_tests a entries) e in
-    record { fitting = fits _ largest_low a.map entries (search) (search); to = stands GoalBlocked a.map a.goal (search) }
-
 both_placed : (m : Map) (start goal : Spot) → places_tested m start goal ≡ Ok tt → AllPassed (places_tests m start goal)
 unfolding places_tested
 both_placed m start goal e = all_passed (places_tests m start goal) e
@@ -84,15 +70,3 @@ ends_ready a entries e =
     let all = all_passed (route_tests a entries) e in
     let (from, to) = both_stand a.map a.start a.goal (search) in
     record { fitting = fits _ largest_low a.map entries (search) (search); from = from; to = to }
-
--- the call to a route's goal
-abbrev pub its_goal : Route → ToGoal
-its_goal a = record { map = a.map; goal = a.goal }
-
--- what passed the tests of a call for a route passes those of a call to its goal
-pub route_goal : (a : Route) (entries : ℕ) → first_refusal (route_tests a entries) ≡ Ok tt → first_refusal (goal_tests (its_goal a) entries) ≡ Ok tt
-unfolding route_tests goal_tests
-route_goal a entries e =
-    let all = all_passed (route_tests a entries) e in
-    let places = both_placed a.map a.start a.goal (search) in
-    passed_all (goal_tests (its_goal a) entries) (search)

@@ -1,4 +1,4 @@
-// Numbers that stand for a cell while its table is checked.
+// Numbers that stand for a cell while its table is checked. Not an enum: they are added to and compared with lengths.
 
 // An open cell with the mark.
 pub const NONE: u32 = 805306368;

@@ -27,8 +27,8 @@ fn step_key(heading: Heading) -> u32
     }
 }
 
-// A column is below 128 as the loop over a row's width counts it, so the bound stays a clause: a struct round the
-// number would be made and taken apart at each call.
+// A column is below 128 as the loop over a row's width counts it, so the bound stays a clause, here and in `rows`: a
+// struct round the number would be made and taken apart at each call.
 impl Window {
     // What a step offers the cell at a column of the middle row: the number where it leads, its key, and what the two
     // cells beside add.

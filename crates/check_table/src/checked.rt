@@ -61,7 +61,8 @@ impl Checked<'_> {
     pub fn show(&self, row: usize, window: &mut Window, at: usize)
         requires rows { row ≤ self.now.floor.height }
         requires at_bound { at < 3 }
-        ensures { Written (in_row (floor_map self.now.floor) self.now.entries.now row) (at * 130 + 1) self.now.floor.width window.old.numbers window.new.numbers }
+        ensures { Written (in_row (floor_map self.now.floor) self.now.entries.now row) (at * 130 + 1)
+            self.now.floor.width window.old.numbers window.new.numbers }
     {
         let from = at * ACROSS + 1;
         self.next_row(row, &mut window.numbers[from..from + self.floor.width]);

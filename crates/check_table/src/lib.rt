@@ -21,7 +21,8 @@ mod checked;
 // the floor: when a row is judged, it shows that row between its neighbours.
 pub fn first_wrong(goal: &Goal, table: &[u32]) -> Option<usize>
     requires { length table.now ≡ cells (floor_map goal.now.floor) }
-    ensures { FirstWrong (Right (steps_of (floor_map goal.now.floor)) (Only goal.now.cell) table.now) (cells (floor_map goal.now.floor)) result }
+    ensures { FirstWrong (Right (steps_of (floor_map goal.now.floor)) (Only goal.now.cell) table.now)
+        (cells (floor_map goal.now.floor)) result }
 {
     let floor = goal.floor;
     let checked = Checked {

@@ -39,6 +39,8 @@ fn number_of(byte: u8, place: usize) -> u32
     FOURS[(byte as usize >> (place / 4 * 4)) % 16][place % 4]
 }
 
+// `Prefix` says how much is loaded, and grows with each byte and row, so it stays a clause of the three that load.
+
 // The first cells of one map byte, as many as count says.
 fn load_byte(work: &mut [u32], floor: &Floor, row: usize, column: usize, count: usize)
     requires byte_run { ByteRun (floor_map floor.now) row column count }

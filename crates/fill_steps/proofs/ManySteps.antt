@@ -10,9 +10,6 @@ use Rattle.fill_steps.proofs.Numbers.{like}
 use Rattle.fill_steps.proofs.OneStep.{OfferFits, inside, one_step, straight_fits}
 use Rattle.fill_steps.proofs.SideCells.{mask_read, diagonal_fits}
 
-pub falls_none : (w : Band) (x q : List ℕ) → Falls w x q x q
-falls_none w x q = record { low = λ z. omega arith; keep = λ z h. refl; high = λ z h. h; queue = λ i h. refl }
-
 pub falls_more : (w : Band) (x q x' q' x'' q'' : List ℕ) → Falls w x q x' q' → Falls w x' q' x'' q'' → Falls w x q x'' q''
 falls_more w x q x' q' x'' q'' f k = record {
   low = λ z. omega (arith, f.low z, k.low z);

@@ -38,7 +38,7 @@ const HALF: u32 = 8192;
 // How far apart the rows of the work array are: 128 cells and the border.
 pub const STRIDE: usize = 130;
 
-// Whether a cell that was not reached now is, by its number before and after: whether their first digits differ. With
+// Whether a cell that was not reached now is, by its number before and after: whether their highest bits differ. With
 // two comparisons in the place of the `xor` a fill takes a sixth more instructions.
 fn is_new(before: u32, after: u32) -> bool
     requires { after ≤ before }
@@ -86,7 +86,8 @@ fn diagonal_of(number: u32) -> u32
 }
 
 // The wave that spreads over the work array: the cells' numbers, and the queue of the cells that were reached, which
-// ends at the tail and has room for all that wait.
+// ends at the tail and has room for all that wait. No heap: the queue is the lent table, and a place is written in it
+// before it counts.
 #[derive(Drop)]
 pub struct Wave<'a> {
     pub work: &'a mut [u32],

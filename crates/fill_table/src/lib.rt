@@ -24,7 +24,8 @@ const LARGE: usize = 16900;
 fn fill_over<const PLACES: usize>(goal: &Goal, table: &mut [u32])
     requires room { ((goal.now.floor.height + 2) * stride ≤ PLACES) × (PLACES ≤ largest) }
     requires table_len { length table.old ≡ cells (floor_map goal.now.floor) }
-    ensures { Filled (steps_of (floor_map goal.now.floor)) (Only goal.now.cell) (cells (floor_map goal.now.floor)) table.new }
+    ensures { Filled (steps_of (floor_map goal.now.floor)) (Only goal.now.cell)
+        (cells (floor_map goal.now.floor)) table.new }
 {
     let mut work = [0u32; PLACES];
     let floor = &goal.floor;
@@ -38,7 +39,8 @@ fn fill_over<const PLACES: usize>(goal: &Goal, table: &mut [u32])
 // Fills the table: each entry is the shortest length from its cell to the goal, or the mark.
 pub fn fill_table(goal: &Goal, table: &mut [u32])
     requires { length table.old ≡ cells (floor_map goal.now.floor) }
-    ensures { Filled (steps_of (floor_map goal.now.floor)) (Only goal.now.cell) (cells (floor_map goal.now.floor)) table.new }
+    ensures { Filled (steps_of (floor_map goal.now.floor)) (Only goal.now.cell)
+        (cells (floor_map goal.now.floor)) table.new }
 {
     if goal.floor.height <= LOW {
         fill_over::<SMALL>(goal, table);

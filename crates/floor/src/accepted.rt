@@ -32,6 +32,7 @@ fn clear_from(byte: u8, k: usize) -> bool
     byte & PADDING[k] == 0
 }
 
+// A column and a row are two numbers where a loop counts them one by one; a place that is named as a whole is a `Spot`.
 impl Floor<'_> {
     ghost use Rattle.std.specs.Prelude.{◌+◌, ◌*◌, slice_index};
     ghost use Rattle.floor.specs.Floor.{blocked, open?, cells, spot_cell};

@@ -1,7 +1,6 @@
 // The tests that calls string together: the floor's three, and what is asked of a table and of a place.
 ghost use Rattle.std.specs.Prelude.{◌≡◌, IfOk};
 ghost use Rattle.answers.specs.Refusing.{refuse, outcome};
-ghost use Rattle.floor.specs.Floor.{largest_side};
 ghost use Rattle.floor.specs.Lent.{given, floor_map};
 ghost use Rattle.floor.specs.Refusals.{sides_outside, wrong_table, off_floor, closed};
 ghost use Rattle.floor.specs.Tests.{floor_tested, places_tested};

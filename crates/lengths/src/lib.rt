@@ -28,7 +28,7 @@ pub const STRAIGHT_KEY: u32 = 13860;
 
 pub const DIAGONAL_KEY: u32 = 19601;
 
-// Both parts are at most the limit.
+// 12: whether a part is above `WAY_PART`.
 #[tactic(auto, unfolding(crate::specs::Answers::part_above))]
 fn test_parts(l: Length) -> Result<(), Refusal>
     ensures { result ≡ refuse LengthAbove (part_above way_part l) }
@@ -58,7 +58,8 @@ fn excess(a: Length, b: Length) -> u64
     p * p + 2 * (q * q)
 }
 
-// Whether a is shorter than b.
+// Whether a is shorter than b. Not an `Ord`: only lengths within the limit have an order, since the squares of others
+// would overflow.
 pub fn shorter(a: Length, b: Length) -> bool
     requires first_within { Within a }
     requires second_within { Within b }

@@ -9,7 +9,7 @@ ghost use Rattle.plan.specs.inner.Steps.{kind_number, or_broken, record_at, fixe
 
 use answers::Refusal;
 
-// What a sound plan holds, and where its map and its queries lie. The numbers are not judged.
+// What a sound plan holds, and where its map and its queries lie: offsets, which C reads. The numbers are not judged.
 #[derive(Clone, Copy)]
 pub struct Plan {
     pub width: usize,

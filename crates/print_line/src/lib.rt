@@ -32,7 +32,7 @@ fn put_floor(page: &mut Page<'_>, plan: Plan)
 }
 
 // Writes the line of a way: the query's number, 0, straight, diagonal, centimetres, leg count, then heading and count
-// of each leg.
+// of each leg. The legs come as they were lent: how many there are stands in the way.
 fn put_way(page: &mut Page<'_>, number: usize, centimetres: u32, way: Way, legs: &[u8])
     requires room { HasRoom line_room page.old }
     requires way_fits { WayFits way legs.now }
@@ -83,11 +83,9 @@ fn put_refusal(page: &mut Page<'_>, refusal: Refusal)
     requires { HasRoom line_room page.old }
     ensures { PutLine page.old (head_line (Err refusal)) page.new }
 {
-    let number = refusal.number();
-    if number == 14 {
-        page.put_line(&[number, refusal.place()]);
-    } else {
-        page.put_line(&[number]);
+    match refusal {
+        Refusal::PlanBroken(offset) => page.put_line(&[refusal.number(), offset]),
+        _ => page.put_line(&[refusal.number()]),
     }
 }
 

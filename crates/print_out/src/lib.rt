@@ -44,7 +44,8 @@ pub fn print_all<W: Write>(writer: &mut W, input: &[u8], out: &mut [u8]) -> io::
 
 // Reads a plan, and writes its lines. One byte more than 4,096 at the most is ever needed.
 pub fn run<R: Read, W: Write>(reader: &mut R, writer: &mut W) -> io::Result<()>
-    ensures { OnOk result (Ran 4097 262144 (R.remaining reader.old) (R.remaining reader.new) (W.contents writer.old) (W.contents writer.new)) }
+    ensures { OnOk result (Ran 4097 262144 (R.remaining reader.old) (R.remaining reader.new)
+        (W.contents writer.old) (W.contents writer.new)) }
 {
     let mut input = [0; 4097];
     let length = read_full(reader, &mut input)?;

@@ -54,9 +54,6 @@ few (Ok u) p h = omega arith
 few (Err f) p h = omega arith
 
 -- what a test's answer says
-pub refused_head : (t : Tested) (f : Refusal) (p : Plan) → t ≡ Err f → Err f ≡ plan_head t p
-refused_head t f p e = sym (ap (λ (x : Tested). plan_head x p) e)
-
 pub passed_head : (t : Tested) (p : Plan) → t ≡ Ok tt → Ok p ≡ plan_head t p
 passed_head t p e = sym (ap (λ (x : Tested). plan_head x p) e)
 

@@ -19,7 +19,7 @@ use print_text::Page;
 
 mod heads;
 
-// Room for any line: a query's line has 16,383 legs at most.
+// Room for any line, which is a clause here as in `print_line`: a query's line has 16,383 legs at most.
 const LINE_ROOM: usize = 131190;
 
 // What was printed into a buffer: how many bytes, how many lines, and how many lines are left to print.
@@ -37,7 +37,8 @@ struct Work {
     legs: [u8; 32766],
 }
 
-// Writes the line of a query. The table is lent with an entry for each cell.
+// Writes the line of a query. The table is lent with an entry for each cell. Table and legs come apart: the proof of a
+// function that is lent a `Work` and lends both its parts in one call did not close.
 fn put_query(
     page: &mut Page<'_>,
     number: usize,

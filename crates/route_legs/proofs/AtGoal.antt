@@ -1,5 +1,6 @@
 -- REFERENCE, "Routes and legs": at the goal a step hands back the same, and start equal to goal gives length (0, 0)
--- and no legs. With a filled table the next heading is 8 at the goal, and nowhere else from where there is a way.
+-- and no legs. With a filled table there is no next heading at the goal (8, by `taken`), and nowhere else from
+-- where there is a way.
 use mathlib.Core.Path.{◌≡◌, refl, ap, ap₂, sym, subst, ◌∙◌}
 use mathlib.Core.Logic.{◌≢◌}
 use mathlib.Core.List.{List, [], ◌++◌}

@@ -43,7 +43,7 @@ fn count_legs(walk: &Walk, start: Walker) -> Way
     }
 }
 
-// A leg's two bytes, put at a place.
+// A leg's two bytes, put at a place. The buffer stays bytes, as C lends it.
 fn put_leg(legs: &mut [u8], at: usize, heading: Heading, count: usize)
     requires { (at + 2 ≤ length legs.old) × (count ≤ 127) }
     ensures { legs.new ≡ set (set legs.old at heading.number) (at + 1) count }
@@ -76,20 +76,20 @@ fn write_legs(walk: &Walk, start: Walker, legs: &mut [u8]) -> Way
 }
 
 // The steps of a way, by the table's number: straight and diagonal ones.
-fn steps_of(entry: u32) -> usize
+fn steps_in(entry: u32) -> usize
     ensures { (result ≡ entry / 65536 + entry % 65536) × (result < 131072) }
 {
     (entry / 65536 + entry % 65536) as usize
 }
 
 // How many legs a buffer of so many bytes is to be tested for: none if it has two bytes for each step, which is enough;
-// else those ahead, which are counted.
+// else those ahead, which are counted. None is 0 and no case of its own: no buffer is too short for it.
 fn legs_wanted(walk: &Walk, start: Walker, bytes: usize) -> usize
     requires stands { Stands (floor_map walk.now.floor) walk.now.table.now numbered start }
     requires few { FewLegs (floor_map walk.now.floor) walk.now.table.now numbered start }
     ensures { Wanted (floor_map walk.now.floor) walk.now.table.now numbered start bytes result }
 {
-    if 2 * steps_of(walk.table[start.cell]) <= bytes {
+    if 2 * steps_in(walk.table[start.cell]) <= bytes {
         return 0;
     }
     count_legs(walk, start).legs

@@ -42,7 +42,8 @@ pub struct WalkedLeg {
     pub after: Walker,
 }
 
-// What a step by the heading adds to a table's number.
+// What a step by the heading adds to a table's number. Checking has its own, in keys: one function for both would take
+// the two numbers that it chooses from.
 fn cost_of(heading: Heading) -> u64
     ensures { (result ≡ cost heading.number) × (result ≤ 65536) }
 {

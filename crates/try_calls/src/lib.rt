@@ -141,6 +141,7 @@ impl Bench {
         self.conclude(trial, theirs, is_same);
         Some(theirs)
     }
+
     // Makes a call that is counted with those of its kind, with no fault.
     pub fn attempt(&mut self, call: Call) -> Option<Said> {
         self.attempt_trial(Trial::from(call))

@@ -1,4 +1,5 @@
 // The library's calls, and what they say in the form of the trials: the only place that knows the library's answers.
+// Functions make the one of the other, since both types of each are of other crates.
 use crate::fitting::Fitting;
 use answers::Refusal;
 use floor::{Map, Spot};

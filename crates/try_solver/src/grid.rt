@@ -186,7 +186,8 @@ impl<T: Copy> Board<T> {
         }
     }
 
-    // Sets the places in a floor's rows and in those before and after them.
+    // Sets the places in a floor's rows and in those before and after them. With `fill` the proof does not close: it
+    // asks for a clone that cannot fail.
     pub fn clear(&mut self, floor: Floor, value: T) {
         for place in &mut self.values[..(floor.sides.height + 2) * STRIDE] {
             *place = value;

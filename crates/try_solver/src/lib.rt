@@ -80,7 +80,12 @@ impl Solver {
                 self.ahead.spread(&self.grid, goal);
                 self.way(call)
             }
-            _ => Ok([call.sides.width, call.sides.height, 0, 0]),
+            Kind::Floors | Kind::Comparisons | Kind::Distances => Ok([
+                call.sides.width,
+                call.sides.height,
+                0,
+                0,
+            ]),
         }
     }
 

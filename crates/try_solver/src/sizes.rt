@@ -51,11 +51,6 @@ impl Steps {
         Steps::new(entry / 65536, entry % 65536)
     }
 
-    // The steps as a table's entry.
-    pub fn entry(self) -> u32 {
-        u32::from(self.straight) * 65536 + u32::from(self.diagonal)
-    }
-
     // The steps of two ways, one after the other.
     pub fn plus(self, more: Steps) -> Steps {
         Steps {
@@ -75,6 +70,13 @@ impl Steps {
     }
 }
 
+// The steps as a table's entry.
+impl From<Steps> for u32 {
+    fn from(steps: Steps) -> u32 {
+        u32::from(steps.straight) * 65536 + u32::from(steps.diagonal)
+    }
+}
+
 // The steps of a length; 12.
 impl TryFrom<Length> for Steps {
     type Error = Refused;
@@ -86,7 +88,7 @@ impl TryFrom<Length> for Steps {
 
 // The entry of a length; where there is none, the mark.
 pub fn entry_of(length: Option<Steps>) -> u32 {
-    length.map_or(MARK, |steps| steps.entry())
+    length.map_or(MARK, u32::from)
 }
 
 // Comparing two lengths: 1 if the first is shorter, else 0; 12.

@@ -11,22 +11,22 @@ floor_within-requires c = largest_low
 
 pub cell_of-requires : goal.cell_of-requires
 cell_of-requires c =
-    let at = (both_stand (floor_map c.in_ok-floor.floor) c.args.start c.args.goal (sym c.in_ok-test_places.ensures)).1 in
+    let at = (both_stand (floor_map c.in_ok-floor.floor) _ c.args.goal (sym c.in_ok-test_places.ensures)).1 in
     (at.column_on, at.row_on)
 
 pub cell_of-requires-2 : goal.cell_of-requires-2
 cell_of-requires-2 c =
-    let at = (both_stand (floor_map c.in_ok-floor.floor) c.args.start c.args.goal (sym c.in_ok-test_places.ensures)).0 in
+    let at = (both_stand (floor_map c.in_ok-floor.floor) _ c.args.goal (sym c.in_ok-test_places.ensures)).0 in
     (at.column_on, at.row_on)
 
 pub invariant_of-goal : goal.invariant_of-goal
 invariant_of-goal c =
-    let at = (both_stand (floor_map c.in_ok-floor.floor) c.args.start c.args.goal (sym c.in_ok-test_places.ensures)).1 in
+    let at = (both_stand (floor_map c.in_ok-floor.floor) _ c.args.goal (sym c.in_ok-test_places.ensures)).1 in
     record { chosen = open_cell (floor_map c.in_ok-floor.floor) c.args.goal _ c.cell_of.ensures at }
 
 pub invariant_of-result : goal.invariant_of-result
 invariant_of-result c =
-    let at = (both_stand (floor_map c.in_ok-floor.floor) c.args.start c.args.goal (sym c.in_ok-test_places.ensures)).0 in
+    let at = (both_stand (floor_map c.in_ok-floor.floor) _ c.args.goal (sym c.in_ok-test_places.ensures)).0 in
     record { begun = open_cell (floor_map c.in_ok-floor.floor) c.args.start _ c.cell_of-2.ensures at }
 
 pub returns-clause-placed : goal.returns-clause-placed

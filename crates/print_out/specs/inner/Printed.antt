@@ -2,7 +2,7 @@
 use Rattle.std.specs.Prelude.{◌≡◌, Option, List, [], ℕ, ◌≤◌, ◌<◌, length, get_or}
 use Rattle.std.specs.Io.KnownBytes.{Appends, Consumes, IsAtEnd}
 use Rattle.print_line.specs.LineRoom.{line_room}
-use Rattle.print_line.specs.declared.Head.{Head}
+use Rattle.print_line.specs.Head.{Head}
 use Rattle.print_plan.specs.Lines.{Heads, count_of, LineAt}
 use Rattle.print_plan.specs.Shown.{joined}
 

@@ -3,8 +3,8 @@
 use Rattle.route_legs.proofs.Answering.{wanted_all, wanted_none}
 use Rattle.route_legs.proofs.legs_wanted.Goals as goal
 
-pub returns-then-steps_of-bytes : goal.returns-then-steps_of-bytes
-returns-then-steps_of-bytes c = wanted_none c.requires.few _ _ c.steps_of.ensures.0 c.if-steps_of-bytes.true
+pub returns-then-steps_in-bytes : goal.returns-then-steps_in-bytes
+returns-then-steps_in-bytes c = wanted_none c.requires.few _ _ c.steps_in.ensures.0 c.if-steps_in-bytes.true
 
 pub returns : goal.returns
 returns c = wanted_all _ _ c.count_legs.ensures

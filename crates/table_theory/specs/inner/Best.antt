@@ -1,10 +1,9 @@
 -- What the neighbours make a cell, computed: the least of the headings' offers. That it is `Made` is proved in
 -- proofs/Best.
-use Rattle.std.specs.Prelude.{Bool, ℕ, zero, suc}
+use Rattle.std.specs.Prelude.{Bool, ℕ, zero, suc, Option, Some, None}
 use Rattle.answers.specs.Bools.{pick}
 use Rattle.lengths.specs.declared.Length.{Length}
 use Rattle.lengths.specs.Order.{zero_length, ◌⊕◌, shorter}
-use Rattle.std.specs.Prelude.{Option, Some, None}
 use Rattle.steps.specs.Heading.{weight}
 use Rattle.table_theory.specs.Entry.{Entry, mark, long}
 
