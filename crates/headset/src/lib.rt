@@ -98,7 +98,8 @@ pub extern "C" fn ways_compare(
     second_straight: u32,
     second_diagonal: u32,
 ) -> CompareAnswer
-    ensures { Shows compare_answer (Compares (length_of first_straight first_diagonal) (length_of second_straight second_diagonal)) result }
+    ensures { Shows compare_answer (Compares (length_of first_straight first_diagonal)
+        (length_of second_straight second_diagonal)) result }
 {
     let first = Length {
         straight: first_straight,

@@ -22,7 +22,7 @@ mod heads;
 // Room for any line, which is a clause here as in `print_line`: a query's line has 16,383 legs at most.
 const LINE_ROOM: usize = 131190;
 
-// What was printed into a buffer: how many bytes, how many lines, and how many lines are left to print.
+// What was printed into a buffer that was lent: how many bytes, how many lines, and how many lines are left to print.
 #[derive(Clone, Copy)]
 pub struct Printed {
     pub length: usize,
@@ -38,7 +38,8 @@ struct Work {
 }
 
 // Writes the line of a query. The table is lent with an entry for each cell. Table and legs come apart: the proof of a
-// function that is lent a `Work` and lends both its parts in one call did not close.
+// function that is lent a `Work` and lends both its parts in one call did not close. Map and spots are made here, since
+// they and what they are made of are types of other crates.
 fn put_query(
     page: &mut Page<'_>,
     number: usize,

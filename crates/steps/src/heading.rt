@@ -8,7 +8,8 @@ pub struct Change {
     pub row: usize,
 }
 
-// A heading, by its number, which is also its byte in a leg: loops count the headings by it, and an odd one is diagonal.
+// A heading, by its number, which is also its byte in a leg: loops count the headings by it, and an odd one is
+// diagonal.
 #[derive(Clone, Copy, PartialEq, Eq)]
 pub struct Heading {
     pub number: usize,

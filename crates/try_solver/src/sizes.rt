@@ -46,7 +46,7 @@ impl Steps {
         })
     }
 
-    // The steps of a table's entry; of the mark and of a malformed entry, none.
+    // The steps of a table's entry; of the mark and of a malformed entry, none. Not a `TryFrom`: none is no error here.
     pub fn of_entry(entry: u32) -> Option<Steps> {
         Steps::new(entry / 65536, entry % 65536)
     }
