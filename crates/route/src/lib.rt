@@ -21,7 +21,7 @@ pub fn find_route(
 {
     let ends = calls::ends_of(map, start, goal, table.len())?;
     fill_table::fill_table(&ends.goal, table);
-    route_legs::read_route(&ends, table, legs)
+    route_legs::read_route(&ends.goal.floor, table, ends.start, ends.goal.cell, legs)
 }
 
 // A route from a table, which is checked first and only read. Refusals: 1 to 8, then 11, 9, 10.
@@ -37,6 +37,6 @@ pub fn route_from_table(
     let ends = calls::ends_of(map, start, goal, table.len())?;
     match check_table::first_wrong(&ends.goal, table) {
         Some(cell) => Err(Refusal::TableWrong(cell)),
-        None => route_legs::read_route(&ends, table, legs),
+        None => route_legs::read_route(&ends.goal.floor, table, ends.start, ends.goal.cell, legs),
     }
 }

@@ -75,5 +75,5 @@ module _ (m : Map) (Goal : ℕ → Type 0) (rank : ℕ → ℕ) (apart : (h k : 
   reads_only r r' x x' p q = same (read_as p) (read_as q)
 
 pub read_route_only : (κs : _) (a : _) (r r' : _) (x x' : _) → read-route.Post κs a r x → read-route.Post κs a r' x'
-    → (r ≡ r') × (x.1.1.0.now ≡ x'.1.1.0.now)
+    → (r ≡ r') × (x.1.1.1.1.0.now ≡ x'.1.1.1.1.0.now)
 read_route_only κs a r r' x x' p q = reads_only _ _ (λ h. h) (λ h k b d e. e) _ _ r r' _ _ p q

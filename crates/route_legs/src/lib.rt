@@ -13,7 +13,7 @@ ghost use Rattle.route_legs.specs.inner.Reading.{ReadsRoute};
 ghost use Rattle.route_legs.specs.inner.Ahead.{Counted, FewLegs, LegRoom, Wanted, LegsWritten};
 
 use answers::Refusal;
-use calls::Ends;
+use floor::Floor;
 use lengths::Length;
 use route_walker::{Walk, Walker};
 use steps::Heading;
@@ -97,23 +97,28 @@ fn legs_wanted(walk: &Walk, start: Walker, bytes: usize) -> usize
 
 // The first route from start to the goal, read from a table that keeps its promise. The goal is the table's: only the
 // promise names it. Refusals: NoWay, LegsShort.
-pub fn read_route(ends: &Ends, table: &[u32], legs: &mut [u8]) -> Result<Way, Refusal>
-    requires { Filled (steps_of (floor_map ends.now.goal.floor)) (Only ends.now.goal.cell)
-        (cells (floor_map ends.now.goal.floor)) table.now }
-    ensures { ReadsRoute (steps_of (floor_map ends.now.goal.floor)) (Only ends.now.goal.cell) (λ h. h)
-        ends.now.start legs.old result legs.new }
+pub fn read_route(
+    floor: &Floor,
+    table: &[u32],
+    start: usize,
+    goal: usize,
+    legs: &mut [u8],
+) -> Result<Way, Refusal>
+    requires start_bound { (start < cells (floor_map floor.now)) × (goal < cells (floor_map floor.now)) }
+    requires filled { Filled (steps_of (floor_map floor.now)) (Only goal) (cells (floor_map floor.now)) table.now }
+    ensures { ReadsRoute (steps_of (floor_map floor.now)) (Only goal) (λ h. h) start legs.old result legs.new }
 {
-    if table[ends.start] == MARK {
+    if table[start] == MARK {
         return Err(Refusal::NoWay);
     }
     let walk = Walk {
-        floor: ends.goal.floor,
+        floor: *floor,
         table,
     };
-    let start = walk.stand(ends.start);
-    let wanted = legs_wanted(&walk, start, legs.len());
+    let walker = walk.stand(start);
+    let wanted = legs_wanted(&walk, walker, legs.len());
     if legs.len() < 2 * wanted {
         return Err(Refusal::LegsShort(wanted));
     }
-    Ok(write_legs(&walk, start, legs))
+    Ok(write_legs(&walk, walker, legs))
 }

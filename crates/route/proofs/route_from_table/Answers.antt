@@ -6,8 +6,8 @@ use Rattle.table.proofs.Exits.{found_wrong}
 use Rattle.route.proofs.Exits.{right_everywhere, asked, none_wrong}
 use Rattle.route.proofs.route_from_table.Goals as goal
 
-pub read_route-requires : goal.read_route-requires
-read_route-requires c = right_everywhere _ _ _ _ c.in_ok-ends.ensures.placed.aimed c.in-None.ensures
+pub read_route-requires-clause-filled : goal.read_route-requires-clause-filled
+read_route-requires-clause-filled c = right_everywhere _ _ _ _ c.in_ok-ends.ensures.placed.aimed c.in-None.ensures
 
 pub returns-in-Some : goal.returns-in-Some
 returns-in-Some c =
