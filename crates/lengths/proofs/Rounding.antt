@@ -27,26 +27,37 @@ nearest_unique m n k a b = by (dec_le (suc n) k) (dec_le (suc k) n)
     by (no p) (yes q) = absurd (not_less m k n b a q)
     by (no p) (no q) = omega arith
 
--- half the square root of 8m², both rounded so, is nearest: the odd square below it is not 8m², which is even
-module _ (m r : ℕ) (low : r * r ≤ 8 * (m * m)) (high : 8 * (m * m) < (r + 1) * (r + 1)) where
-  odd_below : (k : ℕ) → 2 * k + 1 ≤ r → (2 * k + 1) * (2 * k + 1) < 8 * (m * m)
-  odd_below k p = omega (arith, mul-le-mul p p)
+-- m weighed by the keys' ratio, which is a little above √2, and rounded down: nearest, or one less
+module _ (m : ℕ) where
+  abbrev pub by_keys : ℕ
+  by_keys = m * 19601 / 13860
 
-  pub nearest_half : Nearest m ((r + 1) / 2)
-  nearest_half =
-      let n = (r + 1) / 2 in
-      let p : r + 1 ≤ 2 * n + 1 = omega arith in
+  pub kept_at_most : by_keys ≤ 2 * m
+  kept_at_most = omega arith
+
+  pub nearest_kept : m ≤ 1000 * 16383 → 8 * (m * m) ≤ (2 * by_keys + 1) * (2 * by_keys + 1) → Nearest m by_keys
+  nearest_kept limit h =
+      let n = by_keys in
+      let few : m * m ≤ 16383000 * m = mul-le-mul limit (omega arith) in
+      let most : m ≤ n = omega arith in
       record {
-        above = omega (arith, mul-le-mul p p);
-        below = λ h. let e : 2 * n - 1 ≡ 2 * (n - 1) + 1 = omega arith in rw e (odd_below (n - 1) (omega arith));
+        above = omega (arith, h, no_tie m n);
+        below = λ pos. let q : 13860 * (2 * n - 1) + 13860 ≤ 39202 * m = omega arith in omega (arith, mul-le-mul q q, few, most);
       }
 
-  pub half_small : (r + 1) / 2 ≤ 2 * m
-  half_small = by (dec_le ((r + 1) / 2) (2 * m))
+  pub nearest_raised : (2 * by_keys + 1) * (2 * by_keys + 1) < 8 * (m * m) → Nearest m (by_keys + 1)
+  nearest_raised h =
+      let n = by_keys in
+      let p : 19601 * m ≤ 13860 * (n + 1) = omega arith in
+      let e : 2 * (n + 1) - 1 ≡ 2 * n + 1 = omega arith in
+      record { above = omega (arith, mul-le-mul p p); below = λ pos. rw e h }
+
+  pub raised_at_most : (2 * by_keys + 1) * (2 * by_keys + 1) < 8 * (m * m) → by_keys + 1 ≤ 2 * m
+  raised_at_most h = by (dec_le (by_keys + 1) (2 * m))
     where
-      by : Dec ((r + 1) / 2 ≤ 2 * m) → (r + 1) / 2 ≤ 2 * m
+      by : Dec (by_keys + 1 ≤ 2 * m) → by_keys + 1 ≤ 2 * m
       by (yes p) = p
-      by (no p) = let q : 4 * m + 1 ≤ r = omega arith in omega (arith, mul-le-mul q q)
+      by (no p) = let q : 2 * m ≤ by_keys = omega arith in omega (arith, mul-le-mul q q, h)
 
 -- the distance spoken is the only such number
 pub spoken_unique : (size : ℕ) (l : Length) (n k : ℕ) → Spoken size l n → Spoken size l k → n ≡ k

@@ -77,12 +77,19 @@ pub fn compare(a: Length, b: Length) -> Result<bool, Refusal>
     Ok(shorter(a, b))
 }
 
-// The whole number nearest to m√2.
+// The whole number nearest to m√2: what the keys' ratio gives, rounded down, or one more. Not by the library's `isqrt`,
+// which takes many times as long.
 fn nearest(m: u64) -> u64
     requires { m ≤ 1000 * way_part }
     ensures { (Nearest m result) × (result ≤ 2 * m) }
 {
-    ((8 * (m * m)).isqrt() + 1) / 2
+    let below = m * DIAGONAL_KEY as u64 / STRAIGHT_KEY as u64;
+    let odd = 2 * below + 1;
+    if odd * odd < 8 * (m * m) {
+        below + 1
+    } else {
+        below
+    }
 }
 
 // The distance spoken: the whole number of centimetres nearest to the exact length. Refusals: LengthAbove, SizeOutside,
