@@ -3,19 +3,13 @@ use Rattle.std.proofs.Common.{◌∙◌, sym, arith}
 use Rattle.floor.specs.Floor.{open?}
 use Rattle.floor.specs.Lent.{floor_map}
 use Rattle.rooms.specs.Room.{column_open}
-use Rattle.rooms.proofs.Running.{one_after, part_passes, part_fails}
+use Rattle.rooms.proofs.Running.{part_passes, part_fails}
 use Rattle.rooms.proofs.growth.column_open.Goals as goal
 
-pub returns-then-not-open_at : goal.returns-then-not-open_at
+pub returns-then-not-is_open : goal.returns-then-not-is_open
 unfolding column_open
-returns-then-not-open_at c =
-    sym (part_fails (open? (floor_map c.args.floor.now) c.args.column) _ _ c.loop-row.row c.loop-row.auto.row (omega arith) (sym c.open_at.ensures ∙ c.if-not-open_at.true))
-
-pub returns-else-not-open_at : goal.returns-else-not-open_at
-unfolding column_open
-returns-else-not-open_at c =
-    let all = one_after (open? (floor_map c.args.floor.now) c.args.column) _ _ c.loop-row.invariant (sym c.open_at.ensures ∙ c.if-not-open_at.false) in
-    sym (part_passes (open? (floor_map c.args.floor.now) c.args.column) _ _ (λ k p q. all k p (omega arith)))
+returns-then-not-is_open c =
+    sym (part_fails (open? (floor_map c.args.floor.now) c.args.column) _ _ c.loop-row.row c.loop-row.auto.row (omega arith) (sym c.is_open.ensures ∙ c.if-not-is_open.true))
 
 pub returns : goal.returns
 unfolding column_open
