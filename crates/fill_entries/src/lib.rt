@@ -2,15 +2,12 @@
 #![tactic(auto)]
 
 ghost use Rattle.std.specs.Prelude.{◌≡◌, ◌*◌, ◌/◌, ◌<◌, length};
-ghost use Rattle.floor.specs.Floor.{cells};
-ghost use Rattle.floor.specs.Lent.{floor_map};
 ghost use Rattle.lengths.specs.inner.Keys.{straight_key};
 ghost use Rattle.table_theory.specs.Entry.{pack};
 ghost use Rattle.table_theory.specs.inner.Written.{Written};
 ghost use Rattle.fill_entries.specs.inner.Entries.{entry_of, Settled, AllSettled, entry_in, entry_of_cell};
 
 use fill_steps::{GOAL, STEP_STRAIGHT, STRIDE, UNREACHED};
-use floor::Floor;
 use lengths::{DIAGONAL_KEY, STRAIGHT_KEY};
 use table_theory::MARK;
 
@@ -51,27 +48,26 @@ fn entry_of(number: u32) -> u32
     straight * 65536 + diagonal
 }
 
-// The entries of one row. The floor's width is read once, before the loop, so that four entries are made at once: with
-// the width read at each entry a fill takes a sixth more instructions.
-fn store_row(work: &[u32], floor: &Floor, table: &mut [u32], row: usize)
-    requires all_settled { AllSettled floor.now.width floor.now.height work.now }
-    requires row_on { row < floor.now.height }
-    requires table_len { length table.old ≡ cells (floor_map floor.now) }
-    ensures { Written (entry_in work.now row) (row * floor.now.width) floor.now.width table.old table.new }
+// The entries of one row. The width is a number of its own, not read from the lent floor, so that four entries are made
+// at once: with the floor's width read at each entry a fill takes a sixth more instructions.
+fn store_row(work: &[u32], width: usize, height: usize, table: &mut [u32], row: usize)
+    requires all_settled { AllSettled width height work.now }
+    requires row_lt_height { row < height }
+    requires table_len { length table.old ≡ height * width }
+    ensures { Written (entry_in work.now row) (row * width) width table.old table.new }
 {
-    let width = floor.width;
     for column in 0..width {
         table[row * width + column] = entry_of(work[(row + 1) * STRIDE + column + 1]);
     }
 }
 
 // The table of a work array that the bands have left.
-pub fn store_table(work: &[u32], floor: &Floor, table: &mut [u32])
-    requires all_settled { AllSettled floor.now.width floor.now.height work.now }
-    requires table_len { length table.old ≡ cells (floor_map floor.now) }
-    ensures { Written (entry_of_cell floor.now.width work.now) 0 (cells (floor_map floor.now)) table.old table.new }
+pub fn store_table(work: &[u32], width: usize, height: usize, table: &mut [u32])
+    requires all_settled { AllSettled width height work.now }
+    requires table_len { length table.old ≡ height * width }
+    ensures { Written (entry_of_cell width work.now) 0 (height * width) table.old table.new }
 {
-    for row in 0..floor.height {
-        store_row(work, floor, table, row);
+    for row in 0..height {
+        store_row(work, width, height, table, row);
     }
 }

@@ -33,7 +33,7 @@ fn fill_over<const PLACES: usize>(goal: &Goal, table: &mut [u32])
     let place = (goal.cell / floor.width + 1) * fill_steps::STRIDE + goal.cell % floor.width + 1;
     work[place] = fill_steps::GOAL;
     fill_bands::all_bands(&mut work, table, &[place as u32]);
-    fill_entries::store_table(&work, floor, table);
+    fill_entries::store_table(&work, floor.width, floor.height, table);
 }
 
 // Fills the table: each entry is the shortest length from its cell to the goal, or the mark.

@@ -5,4 +5,4 @@ use Rattle.fill_entries.specs.inner.Entries.{entry_in}
 use Rattle.fill_entries.proofs.store_row.Given as goal
 
 abbrev pub invariant-loop-column : goal.invariant-loop-column
-invariant-loop-column l = Written (entry_in l.work l.row) (l.row * l.floor.width) l.column l.initial.table l.table
+invariant-loop-column l = Written (entry_in l.work l.row) (l.row * l.width) l.column l.initial.table l.table

@@ -5,4 +5,4 @@ use Rattle.fill_entries.specs.inner.Entries.{entry_of_cell}
 use Rattle.fill_entries.proofs.store_table.Given as goal
 
 abbrev pub invariant-loop-row : goal.invariant-loop-row
-invariant-loop-row l = Written (entry_of_cell l.floor.width l.work) 0 (l.row * l.floor.width) l.initial.table l.table
+invariant-loop-row l = Written (entry_of_cell l.width l.work) 0 (l.row * l.width) l.initial.table l.table
