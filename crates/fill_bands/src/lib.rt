@@ -6,18 +6,18 @@
 
 ghost use Rattle.std.specs.Prelude.{◌≡◌, ◌<◌, ◌↔◌, IsTrue, length};
 ghost use Rattle.fill_steps.specs.inner.Work.{at};
-ghost use Rattle.fill_steps.specs.inner.Waves.{Moved};
+ghost use Rattle.fill_steps.specs.inner.Spreads.{Moved};
 ghost use Rattle.fill_bands.specs.inner.Pass.{Places, FreshParted, StepsBegun, StepsLeft, PassBegun, PassLeft};
 ghost use Rattle.fill_bands.specs.inner.Solved.{Loaded, Goals, GoalsDone, Solved};
 
-use fill_steps::{STEP_STRAIGHT, Wave};
+use fill_steps::{STEP_STRAIGHT, Spread};
 
 // Whether a cell is ready: its number is below the limit.
-fn is_ready(wave: &Wave, cell: u32, limit: u32) -> bool
-    requires { cell < length wave.now.work.now }
-    ensures { IsTrue result ↔ (at wave.now.work.now cell < limit) }
+fn is_ready(spread: &Spread, cell: u32, limit: u32) -> bool
+    requires { cell < length spread.now.work.now }
+    ensures { IsTrue result ↔ (at spread.now.work.now cell < limit) }
 {
-    wave.work[cell as usize] < limit
+    spread.work[cell as usize] < limit
 }
 
 // Brings the cells of queue[fresh..tail] that are ready, below the limit, before those that wait. Gives where the first
@@ -25,31 +25,31 @@ fn is_ready(wave: &Wave, cell: u32, limit: u32) -> bool
 // the ready ones end, and counts there if it is one; the library's `swap` tests first whether the two are one, for
 // which a fill takes 2.5 % more instructions. The first one stands there already: in a narrow aisle, where a band has
 // one cell, nothing is moved.
-fn ready_first(wave: &mut Wave, fresh: usize, limit: u32) -> usize
-    requires { Places wave.old.work.now wave.old.queue.now fresh wave.old.tail }
-    ensures { Moved wave.old wave.new (FreshParted fresh limit result) }
+fn ready_first(spread: &mut Spread, fresh: usize, limit: u32) -> usize
+    requires { Places spread.old.work.now spread.old.queue.now fresh spread.old.tail }
+    ensures { Moved spread.old spread.new (FreshParted fresh limit result) }
 {
-    if fresh == wave.tail {
+    if fresh == spread.tail {
         return fresh;
     }
-    let mut top = fresh + usize::from(is_ready(wave, wave.queue[fresh], limit));
-    for i in fresh + 1..wave.tail {
-        let cell = wave.queue[i];
-        wave.queue[i] = wave.queue[top];
-        wave.queue[top] = cell;
-        top += usize::from(is_ready(wave, cell, limit));
+    let mut top = fresh + usize::from(is_ready(spread, spread.queue[fresh], limit));
+    for i in fresh + 1..spread.tail {
+        let cell = spread.queue[i];
+        spread.queue[i] = spread.queue[top];
+        spread.queue[top] = cell;
+        top += usize::from(is_ready(spread, cell, limit));
     }
     top
 }
 
 // The ready cells queue[mid..top] take their steps.
-fn ready_steps(wave: &mut Wave, mid: usize, top: usize)
-    requires { StepsBegun wave.old.work.now wave.old.queue.now mid top wave.old.tail }
-    ensures { Moved wave.old wave.new (StepsLeft mid top) }
+fn ready_steps(spread: &mut Spread, mid: usize, top: usize)
+    requires { StepsBegun spread.old.work.now spread.old.queue.now mid top spread.old.tail }
+    ensures { Moved spread.old spread.new (StepsLeft mid top) }
 {
     for i in mid..top {
-        let from = wave.queue[i] as usize;
-        wave.cell_steps(from);
+        let from = spread.queue[i] as usize;
+        spread.cell_steps(from);
     }
 }
 
@@ -58,24 +58,24 @@ fn ready_steps(wave: &mut Wave, mid: usize, top: usize)
 // now. Gives where the first one stands. A cell waits at most once: what was reached before a band lies less than one
 // straight step past that band's end, and so below the end of the next one. So the cells that waited in the band
 // before, queue[mid..fresh], are all ready, and only the fresh ones, which it reached, are parted.
-fn one_band(wave: &mut Wave, mid: usize, fresh: usize, limit: u32) -> usize
-    requires { PassBegun wave.old.work.now wave.old.queue.now mid fresh wave.old.tail limit }
-    ensures { Moved wave.old wave.new (PassLeft mid fresh limit result) }
+fn one_band(spread: &mut Spread, mid: usize, fresh: usize, limit: u32) -> usize
+    requires { PassBegun spread.old.work.now spread.old.queue.now mid fresh spread.old.tail limit }
+    ensures { Moved spread.old spread.new (PassLeft mid fresh limit result) }
 {
-    let waiting = ready_first(wave, fresh, limit);
-    ready_steps(wave, mid, waiting);
+    let waiting = ready_first(spread, fresh, limit);
+    ready_steps(spread, mid, waiting);
     waiting
 }
 
 // The goal's places take their steps.
-fn goal_steps(wave: &mut Wave, goals: &[u32])
-    requires begins { wave.old.tail ≡ 0 }
-    requires loaded { Loaded wave.old.work.now wave.old.queue.now }
-    requires goals { Goals wave.old.work.now goals.now }
-    ensures { Moved wave.old wave.new (GoalsDone goals.now) }
+fn goal_steps(spread: &mut Spread, goals: &[u32])
+    requires begins { spread.old.tail ≡ 0 }
+    requires loaded { Loaded spread.old.work.now spread.old.queue.now }
+    requires goals { Goals spread.old.work.now goals.now }
+    ensures { Moved spread.old spread.new (GoalsDone goals.now) }
 {
     for from in goals {
-        wave.cell_steps(*from as usize);
+        spread.cell_steps(*from as usize);
     }
 }
 
@@ -85,19 +85,19 @@ pub fn all_bands(work: &mut [u32], queue: &mut [u32], goals: &[u32])
     requires goals { Goals work.old goals.now }
     ensures { Solved work.old work.new }
 {
-    let mut wave = Wave {
+    let mut spread = Spread {
         work,
         queue,
         tail: 0,
     };
-    goal_steps(&mut wave, goals);
+    goal_steps(&mut spread, goals);
     let mut mid = 0;
     let mut fresh = 0;
     let mut limit = 3 * STEP_STRAIGHT;
     // No `for`: how many bands there are shows as the queue ends.
-    while mid < wave.tail {
-        let tail = wave.tail;
-        mid = one_band(&mut wave, mid, fresh, limit);
+    while mid < spread.tail {
+        let tail = spread.tail;
+        mid = one_band(&mut spread, mid, fresh, limit);
         fresh = tail;
         limit += STEP_STRAIGHT;
     }

@@ -16,8 +16,8 @@ pub record NorthTaken (w : Band) (x q : List ℕ) (t p v north : ℕ) : Type 0 w
   pub number : at x p ≡ v
   pub mask : Masks (at w.floor (target p 0)) north
 
--- then a number of turns followed, each of a straight step and the diagonal one before it, and side is the mask of the
+-- then a number of rounds followed, each of a straight step and the diagonal one before it, and side is the mask of the
 -- cell that the last straight heading leads to
-pub record Turns (p v north side n t : ℕ) (x₀ q₀ x q : List ℕ) (t' : ℕ) : Type 0 where
+pub record Rounds (p v north side n t : ℕ) (x₀ q₀ x q : List ℕ) (t' : ℕ) : Type 0 where
   pub keeps : (w : Band) → NorthTaken w x₀ q₀ t p v north → Offered w (λ j. (0 < j) × (j ≤ 2 * n)) p x₀ q₀ x q t'
   pub behind : (w : Band) → NorthTaken w x₀ q₀ t p v north → n < 4 → Masks (at w.floor (target p (2 * n))) side

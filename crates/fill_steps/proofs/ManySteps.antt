@@ -1,11 +1,11 @@
--- Steps out of one cell, one after another: north, and then in each turn the straight step after a diagonal one and the
--- diagonal one.
+-- Steps out of one cell, one after another: north, and then in each round the straight step after a diagonal one and
+-- the diagonal one.
 use Rattle.std.proofs.Common.{◌≡◌, ℕ, ◌+◌, ◌-◌, ◌*◌, ◌%◌, ◌<◌, ◌≤◌, ◌≢◌, ◌⊎◌, List, sym, refl, ap, ◌∙◌, subst, inl, inr, arith}
 use native.Mathlib.Decide.{ℕ_discrete}
 use Rattle.fill_steps.specs.inner.Work.{span, stepped, at, target, WorkStep}
 use Rattle.fill_steps.specs.inner.Band.{Band, Falls}
 use Rattle.fill_steps.specs.inner.Taken.{OfferMade, Masks, SideStep, SideAfter, PastSides, Offered, TakenLeft}
-use Rattle.fill_steps.proofs.Kept.{MayStep, NorthTaken, Turns}
+use Rattle.fill_steps.proofs.Kept.{MayStep, NorthTaken, Rounds}
 use Rattle.fill_steps.proofs.Numbers.{like}
 use Rattle.fill_steps.proofs.OneStep.{OfferFits, inside, one_step, straight_fits}
 use Rattle.fill_steps.proofs.SideCells.{mask_read, diagonal_fits}
@@ -55,8 +55,8 @@ module _ (w : Band) (Old : ℕ → Type 0) (p t : ℕ) (x₀ q₀ x q : List ℕ
       by j k (no e) = inl (cover j k e)
 
 module _ (p v north t : ℕ) (x₀ q₀ : List ℕ) where
-  -- a turn with the diagonal heading h: the straight step after it, and then h itself
-  module _ (side n : ℕ) (x q : List ℕ) (t' : ℕ) (i : Turns p v north side n t x₀ q₀ x q t') (b : n < 4)
+  -- a round with the diagonal heading h: the straight step after it, and then h itself
+  module _ (side n : ℕ) (x q : List ℕ) (t' : ℕ) (i : Rounds p v north side n t x₀ q₀ x q t') (b : n < 4)
       (h : ℕ) (odd : h ≡ 2 * n + 1) (straight : ℕ) (sum : straight ≡ v + span) (other : ℕ) (x' q' : List ℕ) (t'' : ℕ)
       (s : SideAfter p h straight north other t' x q x' q' t'') where
     ahead : (w : Band) → NorthTaken w x₀ q₀ t p v north → Masks (at w.floor (target p ((h + 1) % 8))) other
@@ -103,7 +103,7 @@ module _ (p v north t : ℕ) (x₀ q₀ : List ℕ) where
           (diagonal_fits w x' q' t'' a.going p h cand c cand-is side other (omega arith) (omega arith) (inside o.ready).low behind (ahead w o) past)
           (λ j k d. (k.0, k.1, d))
 
-      pub headings_more : Turns p v north other (n + 1) t x₀ q₀ x'' q'' t'''
+      pub headings_more : Rounds p v north other (n + 1) t x₀ q₀ x'' q'' t'''
       headings_more = record {
         keeps = more_keeps;
         behind = λ w o k. subst (λ (j : ℕ). Masks (at w.floor (target p j)) other) (omega arith) (ahead w o);
@@ -111,7 +111,7 @@ module _ (p v north t : ℕ) (x₀ q₀ : List ℕ) where
 
 -- north was first
 pub headings_all : (p v north t straight : ℕ) (x₀ q₀ x₁ q₁ : List ℕ) (t₁ side n : ℕ) (x q : List ℕ) (t' : ℕ) → at x₀ p ≡ v → straight ≡ v + span
-    → SideStep p 0 straight north t x₀ q₀ x₁ q₁ t₁ → Turns p v north side n t₁ x₁ q₁ x q t' → 4 ≤ n → TakenLeft p t x₀ q₀ x q t'
+    → SideStep p 0 straight north t x₀ q₀ x₁ q₁ t₁ → Rounds p v north side n t₁ x₁ q₁ x q t' → 4 ≤ n → TakenLeft p t x₀ q₀ x q t'
 headings_all p v north t straight x₀ q₀ x₁ q₁ t₁ side n x q t' e sum first i b = record {
   keeps = λ w g small cell. keeps w (record { going = g; small = small; cell = cell });
 }

@@ -1,4 +1,4 @@
 pub mod Taken
 pub mod Band
 pub mod Work
-pub mod Waves
+pub mod Spreads

@@ -85,11 +85,11 @@ fn diagonal_of(number: u32) -> u32
     }
 }
 
-// The wave that spreads over the work array: the cells' numbers, and the queue of the cells that were reached, which
-// ends at the tail and has room for all that wait. No heap: the queue is the lent table, and a place is written in it
-// before it counts.
+// What spreads over the work array: the cells' numbers, and the queue of the cells that were reached, which ends at the
+// tail and has room for all that wait. No heap: the queue is the lent table, and a place is written in it before it
+// counts.
 #[derive(Drop)]
-pub struct Wave<'a> {
+pub struct Spread<'a> {
     pub work: &'a mut [u32],
     pub queue: &'a mut [u32],
     pub tail: usize,
@@ -97,11 +97,11 @@ pub struct Wave<'a> {
 }
 
 // That a place is off the border is a fact of the place in this array, so it stays a clause: a struct of both would
-// hold the wave's own array.
-impl Wave<'_> {
+// hold the spread's own array.
+impl Spread<'_> {
     ghost use Rattle.fill_steps.specs.inner.Work.{at, OffBorder};
     ghost use Rattle.fill_steps.specs.inner.Taken.{Lowered, OfferMade, SideStep, SideAfter, TakenLeft};
-    ghost use Rattle.fill_steps.specs.inner.Waves.{Moved};
+    ghost use Rattle.fill_steps.specs.inner.Spreads.{Moved};
 
     // Lowers the number of a place, if this one is less, and puts the place behind the queue, where it stays if the
     // tail moves on. Gives the number before.

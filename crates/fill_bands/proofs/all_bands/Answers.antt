@@ -12,7 +12,7 @@ pub loop-mid-smaller : goal.loop-mid-smaller
 loop-mid-smaller c =
     let g = c.loop-mid.invariant.did.between _ _ c.requires.loaded c.requires.goals c.goal_steps.ensures.did in
     let m = c.loop-mid-test.true in
-    omega (arith, grows _ _ _ _ _ _ _ g m _ _ _ _ c.one_band-mid.ensures.did, c.loop-mid.wave.room, m)
+    omega (arith, grows _ _ _ _ _ _ _ g m _ _ _ _ c.one_band-mid.ensures.did, c.loop-mid.spread.room, m)
 
 pub loop-mid-preserved : goal.loop-mid-preserved
 loop-mid-preserved c = record {

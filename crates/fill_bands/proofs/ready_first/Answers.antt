@@ -8,8 +8,8 @@ pub loop-i-preserved : goal.loop-i-preserved
 loop-i-preserved c =
     let k = c.loop-i.invariant.did in
     let b = counted _ _ _ _ c.from-top.ensures (rw k.0 at c.is_ready-in-loop-i.ensures) in
-    let m : c.loop-i.i < length c.loop-i.wave.queue.now = omega (arith, c.loop-i.wave.room, k.1) in
-    let n : c.loop-i.top < length c.loop-i.wave.queue.now = omega (arith, k.2.order) in
+    let m : c.loop-i.i < length c.loop-i.spread.queue.now = omega (arith, c.loop-i.spread.room, k.1) in
+    let n : c.loop-i.top < length c.loop-i.spread.queue.now = omega (arith, k.2.order) in
     let w = swapped_from_swap _ _ _ _ 0 m n (swap_is _ _ _ 0 m n) in
     record {
       work = c.loop-i.invariant.work;

@@ -23,7 +23,7 @@ pub record Parted (x : List ℕ) (limit mid t : ℕ) (q q' : List ℕ) (top : �
   pub head : (k : ℕ) → k < mid → get_or q' k 0 ≡ get_or q k 0
   pub rest : (k : ℕ) → t ≤ k → get_or q' k 0 ≡ get_or q k 0
 
--- of a wave the cells q[fresh..t] do
+-- of a spread the cells q[fresh..t] do
 pub record FreshParted (fresh limit top t : ℕ) (x q x' q' : List ℕ) (t' : ℕ) : Type 0 where
   pub cells : x' ≡ x
   pub end : t' ≡ t

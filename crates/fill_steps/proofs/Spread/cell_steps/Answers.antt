@@ -3,7 +3,7 @@
 use Rattle.std.proofs.Common.{◌≡◌, ℕ, zero, suc, ◌+◌, ◌*◌, ◌<◌, [], ◌∷◌, get_or, refl, arith}
 use Rattle.fill_steps.proofs.InWork.{in_work}
 use Rattle.fill_steps.proofs.ManySteps.{headings_more, headings_all}
-use Rattle.fill_steps.proofs.Wave.cell_steps.Goals as goal
+use Rattle.fill_steps.proofs.Spread.cell_steps.Goals as goal
 
 -- the diagonal headings
 diagonal_at : (i : ℕ) → i < 4 → get_or (1 ∷ 3 ∷ 5 ∷ 7 ∷ []) i 0 ≡ 2 * i + 1

@@ -1,10 +1,10 @@
--- What becomes of a wave.
+-- What becomes of a spread.
 use Rattle.std.specs.Prelude.{◌≡◌, ℕ, List, length}
-use Rattle.fill_steps.specs.declared.Wave.{Wave}
+use Rattle.fill_steps.specs.declared.Spread.{Spread}
 
--- a wave was moved on, over the same arrays, which keep their lengths, as Did says of the queue's end, the work array
+-- a spread was moved on, over the same arrays, which keep their lengths, as Did says of the queue's end, the work array
 -- and the queue before, and the work array, the queue and its end after
-pub record Moved (w w' : Wave) (Did : ℕ → (x q x' q' : List ℕ) → ℕ → Type 0) : Type 0 where
+pub record Moved (w w' : Spread) (Did : ℕ → (x q x' q' : List ℕ) → ℕ → Type 0) : Type 0 where
   pub work : w'.work.ghost_name ≡ w.work.ghost_name
   pub queue : w'.queue.ghost_name ≡ w.queue.ghost_name
   pub work_size : length w'.work.now ≡ length w.work.now

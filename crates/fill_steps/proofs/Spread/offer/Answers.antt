@@ -1,8 +1,8 @@
--- `fill_steps::Wave::offer` meets its contract: the queue grows where the cell was not reached and now is.
+-- `fill_steps::Spread::offer` meets its contract: the queue grows where the cell was not reached and now is.
 use Rattle.std.proofs.Common.{ℕ, ◌/◌, ap, arith}
 use Rattle.fill_steps.specs.inner.Work.{unreached}
 use Rattle.fill_steps.proofs.Changed.{lowered_made, new_counts}
-use Rattle.fill_steps.proofs.Wave.offer.Goals as goal
+use Rattle.fill_steps.proofs.Spread.offer.Goals as goal
 
 pub invariant_of-self : goal.invariant_of-self
 invariant_of-self c =

@@ -1,9 +1,9 @@
--- `fill_steps::Wave::side_step` meets its contract: the heading leads to a place of the array, and the number counts, so a
--- cell that was not reached now is.
+-- `fill_steps::Spread::side_step` meets its contract: the heading leads to a place of the array, and the number counts,
+-- so a cell that was not reached now is.
 use Rattle.std.proofs.Common.{arith}
 use Rattle.fill_steps.proofs.Changed.{lowered_made, all_count}
 use Rattle.fill_steps.proofs.InWork.{in_work}
-use Rattle.fill_steps.proofs.Wave.side_step.Goals as goal
+use Rattle.fill_steps.proofs.Spread.side_step.Goals as goal
 
 pub lower-before-requires : goal.lower-before-requires
 lower-before-requires c = omega (arith, c.place_of.ensures, in_work _ _ _ c.args.heading.known c.requires.off_border)
