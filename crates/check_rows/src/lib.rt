@@ -8,4 +8,4 @@ mod rows;
 mod window;
 
 pub use rows::Row;
-pub use window::{ACROSS, Window};
+pub use window::{ACROSS, MIDDLE, Window};

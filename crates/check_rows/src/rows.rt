@@ -3,8 +3,8 @@ ghost use Rattle.std.specs.Prelude.{◌≡◌, ◌+◌, ◌≤◌, ◌<◌, fals
 ghost use Rattle.table_theory.specs.inner.First.{FirstWrong};
 ghost use Rattle.check_rows.specs.inner.Window.{differs_in, start_of, differs_at, differing};
 
-use crate::Window;
 use crate::cell_numbers::{NONE, WALL};
+use crate::{MIDDLE, Window};
 
 // The row of the floor that stands in the window's middle row: its width, its first cell, and the goal's cell. Cells
 // are u32 here, as wide as the numbers of the window: with usize a check takes 7 % more instructions.
@@ -38,7 +38,7 @@ impl Window {
         requires { column < 128 }
         ensures { result ≡ differs_in self.now.numbers column start }
     {
-        let number = self.at(1, column + 1);
+        let number = self.numbers[MIDDLE + column];
         number != self.least(column, start) && number != WALL
     }
 

@@ -6,6 +6,9 @@ use crate::cell_numbers::WALL;
 // A row's numbers: those of the most columns that a floor has, and a border at each end.
 pub const ACROSS: usize = 130;
 
+// The place of the first column in the middle row.
+pub const MIDDLE: usize = ACROSS + 1;
+
 // The numbers of three rows.
 pub const NUMBERS: usize = 3 * ACROSS;
 
