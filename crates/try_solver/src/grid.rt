@@ -40,6 +40,21 @@ impl Heading {
         Heading::NorthWest,
     ];
 
+    // The straight ones, and the diagonal ones.
+    pub const STRAIGHT: [Heading; 4] = [
+        Heading::North,
+        Heading::East,
+        Heading::South,
+        Heading::West,
+    ];
+
+    pub const DIAGONAL: [Heading; 4] = [
+        Heading::NorthEast,
+        Heading::SouthEast,
+        Heading::SouthWest,
+        Heading::NorthWest,
+    ];
+
     // How far to the right of the corner the head of a step lies.
     fn right(self) -> usize
         ensures { result ≤ 2 }

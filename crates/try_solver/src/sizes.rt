@@ -86,6 +86,15 @@ impl TryFrom<Length> for Steps {
     }
 }
 
+// The shorter of two lengths, of which either may be none; of equal ones the first.
+pub fn shorter_of(first: Option<Steps>, second: Option<Steps>) -> Option<Steps> {
+    match (first, second) {
+        (Some(length), Some(other)) if !other.is_shorter(length) => first,
+        (_, None) => first,
+        _ => second,
+    }
+}
+
 // The entry of a length; where there is none, the mark.
 pub fn entry_of(length: Option<Steps>) -> u32 {
     length.map_or(MARK, u32::from)
