@@ -1,13 +1,11 @@
 -- The loop that counts queries: what holds at each turn.
-use mathlib.Core.Path.{◌≡◌}
+use mathlib.Core.Path.{◌≡◌, sym}
 use mathlib.Core.List.{List}
 use Prim.Native.Nat.{ℕ, suc, ◌+◌, ◌-◌, ◌<◌}
 use native.Mathlib.Omega.{arith}
-use Rattle.std.specs.Prelude.{Option, Ok, Err}
-use Rattle.answers.specs.declared.Refusal.{Refusal}
+use Rattle.std.specs.Prelude.{Option, Some, None}
 use Rattle.plan.specs.declared.Content.{Content}
-use Rattle.plan.specs.inner.Steps.{or_broken, fixed_record_at, and_more, count_from}
-use Rattle.plan.proofs.Ways.{there, not_there}
+use Rattle.plan.specs.inner.Steps.{fixed_record_at, and_more, count_from}
 
 -- those that are counted, and those that still are to be, are all
 abbrev pub Counting : List ℕ → ℕ → ℕ → ℕ → Type 0
@@ -27,8 +25,8 @@ module _ (bytes : List ℕ) (first count at : ℕ) (k : Counting bytes first cou
         let step : 64 - count ≡ suc (64 - (count + 1)) = omega arith in
         rw (step, e)
 
-    pub counting_stops : {f : Refusal} → Err f ≡ or_broken at (fixed_record_at bytes at 4 8) → count ≡ count_from bytes 64 first
-    counting_stops h = omega (arith, k, turn (not_there h).0)
+    pub counting_stops : None ≡ fixed_record_at bytes at 4 8 → count ≡ count_from bytes 64 first
+    counting_stops h = omega (arith, k, turn (sym h))
 
-    pub counting_goes_on : (query : Content) → Ok query ≡ or_broken at (fixed_record_at bytes at 4 8) → Counting bytes first (count + 1) query.next
-    counting_goes_on query h = omega (arith, k, turn (there _ h))
+    pub counting_goes_on : (query : Content) → Some query ≡ fixed_record_at bytes at 4 8 → Counting bytes first (count + 1) query.next
+    counting_goes_on query h = omega (arith, k, turn (sym h))

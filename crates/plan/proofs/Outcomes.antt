@@ -4,7 +4,7 @@ use mathlib.Core.List.{List}
 use Prim.Native.Nat.{ℕ, ◌+◌, ◌*◌}
 use lib.ListN.{get_or, drop}
 use Rattle.std.proofs.Common.{Fits, w8}
-use Rattle.std.specs.Prelude.{Bool, Some, Result, Ok, Err, IsErr, IsErrAnd}
+use Rattle.std.specs.Prelude.{Bool, Option, Some, Result, Ok, Err, IsErr, IsErrAnd}
 use Rattle.std.proofs.lemmas.Result.{err_from_is_err_and}
 use Rattle.answers.specs.declared.Refusal.{Refusal}
 use Rattle.answers.specs.declared.Refusal.TheVariants.{PlanBroken}
@@ -16,7 +16,7 @@ use Rattle.plan.specs.Records.{number_in}
 use Rattle.plan.specs.Reads.{plan_given, Reads}
 use Rattle.plan.specs.inner.Steps.{or_broken, record_at, fixed_record_at, count_from, goes_on_at, after_end, after_queries, after_size, after_map, after_floor, reading_of}
 use Rattle.plan.proofs.Numbers.{Bytes}
-use Rattle.plan.proofs.Ways.{there, not_there}
+use Rattle.plan.proofs.Ways.{not_there}
 use Rattle.plan.proofs.Answers.{sound_read, broken_read}
 use Rattle.plan.proofs.Total.{Told, judge}
 
@@ -42,35 +42,38 @@ pub record SizeRead (bytes : List ℕ) (floor map size : Content) : Type 0 where
   pub found : fixed_record_at bytes map.next 3 2 ≡ Some size
 
 module _ {bytes : List ℕ} (fits : (i : ℕ) → Fits w8 (get_or bytes i 0)) where
-  pub floor_read : {floor : Content} → Ok floor ≡ or_broken 0 (fixed_record_at bytes 0 1 4) → FloorRead bytes floor
-  floor_read h = record { known = λ i. (fits i).fits; found = there _ h }
+  pub floor_read : {o : Option Content} {floor : Content} → o ≡ fixed_record_at bytes 0 1 4 → o ≡ Some floor → FloorRead bytes floor
+  floor_read e h = record { known = λ i. (fits i).fits; found = sym e ∙ h }
 
-  pub floor_broken : {f : Refusal} → Err f ≡ or_broken 0 (fixed_record_at bytes 0 1 4) → Reads bytes (Err f)
-  floor_broken h = let (none, same) = not_there h in answered bytes (λ i. (fits i).fits) _ (ap (after_floor bytes) none ∙ ap Err same)
+  pub floor_broken : {o : Option Content} {f : Refusal} → o ≡ fixed_record_at bytes 0 1 4 → Err f ≡ or_broken 0 o → Reads bytes (Err f)
+  floor_broken e h =
+      let (none, same) = not_there h in
+      answered bytes (λ i. (fits i).fits) _ (ap (after_floor bytes) (sym e ∙ none) ∙ ap Err same)
 
 module _ {bytes : List ℕ} {floor : Content} (before : FloorRead bytes floor) where
   floor_step : reading_of bytes ≡ after_map bytes floor (record_at bytes floor.next 2)
   floor_step = ap (after_floor bytes) before.found
 
-  pub map_read : {map : Content} → Ok map ≡ or_broken floor.next (record_at bytes floor.next 2) → MapRead bytes floor map
-  map_read h = record { before = before; found = there _ h }
+  pub map_read : {o : Option Content} {map : Content} → o ≡ record_at bytes floor.next 2 → o ≡ Some map → MapRead bytes floor map
+  map_read e h = record { before = before; found = sym e ∙ h }
 
-  pub map_broken : {f : Refusal} → Err f ≡ or_broken floor.next (record_at bytes floor.next 2) → Reads bytes (Err f)
-  map_broken h =
+  pub map_broken : {o : Option Content} {f : Refusal} → o ≡ record_at bytes floor.next 2 → Err f ≡ or_broken floor.next o → Reads bytes (Err f)
+  map_broken e h =
       let (none, same) = not_there h in
-      answered bytes before.known _ (floor_step ∙ (ap (after_map bytes floor) none ∙ ap Err same))
+      answered bytes before.known _ (floor_step ∙ (ap (after_map bytes floor) (sym e ∙ none) ∙ ap Err same))
 
 module _ {bytes : List ℕ} {floor map : Content} (before : MapRead bytes floor map) where
   map_step : reading_of bytes ≡ after_size bytes floor map (fixed_record_at bytes map.next 3 2)
   map_step = floor_step before.before ∙ ap (after_map bytes floor) before.found
 
-  pub size_read : {size : Content} → Ok size ≡ or_broken map.next (fixed_record_at bytes map.next 3 2) → SizeRead bytes floor map size
-  size_read h = record { before = before; found = there _ h }
+  pub size_read : {o : Option Content} {size : Content} → o ≡ fixed_record_at bytes map.next 3 2 → o ≡ Some size → SizeRead bytes floor map size
+  size_read e h = record { before = before; found = sym e ∙ h }
 
-  pub size_broken : {f : Refusal} → Err f ≡ or_broken map.next (fixed_record_at bytes map.next 3 2) → Reads bytes (Err f)
-  size_broken h =
+  pub size_broken : {o : Option Content} {f : Refusal} → o ≡ fixed_record_at bytes map.next 3 2 → Err f ≡ or_broken map.next o
+      → Reads bytes (Err f)
+  size_broken e h =
       let (none, same) = not_there h in
-      answered bytes before.before.known _ (map_step ∙ (ap (after_size bytes floor map) none ∙ ap Err same))
+      answered bytes before.before.known _ (map_step ∙ (ap (after_size bytes floor map) (sym e ∙ none) ∙ ap Err same))
 
 module _ {bytes : List ℕ} {floor map size : Content} (before : SizeRead bytes floor map size) where
   module _ (n : ℕ) (counted : n ≡ count_from bytes 64 size.next) where

@@ -2,10 +2,10 @@
 // sound plan holds and where, or the place of the break.
 #![tactic(auto)]
 
-ghost use Rattle.std.specs.Prelude.{◌≡◌, ◌+◌, ◌≤◌, length, drop, IfOk};
+ghost use Rattle.std.specs.Prelude.{◌≡◌, ◌+◌, ◌≤◌, length, drop, IfSome};
 ghost use Rattle.plan.specs.Records.{number_in};
 ghost use Rattle.plan.specs.Reads.{Reads, query_at, Asks};
-ghost use Rattle.plan.specs.inner.Steps.{kind_number, or_broken, record_at, fixed_record_at, count_from, Lies};
+ghost use Rattle.plan.specs.inner.Steps.{kind_number, record_at, fixed_record_at, count_from, Lies};
 
 use answers::Refusal;
 
@@ -71,38 +71,36 @@ fn number_at(bytes: &[u8], at: usize) -> usize
     u16::from_le_bytes([bytes[at], bytes[at + 1]]) as usize
 }
 
-// The record of a kind that begins at an offset. Refusal: PlanBroken there, where it is missing, cut off or of another
-// kind.
-fn record_at(bytes: &[u8], at: usize, kind: Kind) -> Result<Content, Refusal>
-    ensures value { result ≡ or_broken at (record_at bytes.now at (kind_number kind)) }
-    ensures within { IfOk result (λ c. Lies bytes.now at c) }
+// The record of a kind that begins at an offset; None where it is missing, cut off or of another kind.
+fn record_at(bytes: &[u8], at: usize, kind: Kind) -> Option<Content>
+    ensures value { result ≡ record_at bytes.now at (kind_number kind) }
+    ensures within { IfSome result (λ c. Lies bytes.now at c) }
 {
-    let broken = Refusal::PlanBroken(at);
     let left = bytes.len().saturating_sub(at);
     if left < 4 {
-        return Err(broken);
+        return None;
     }
     let len = number_at(bytes, at);
     if left - 4 < len || number_at(bytes, at + 2) != kind.number() {
-        return Err(broken);
+        return None;
     }
-    Ok(Content {
+    Some(Content {
         at: at + 4,
         len,
         next: at + 4 + len,
     })
 }
 
-// The same of a kind whose content has a fixed length. Refusal: PlanBroken also where it has another.
-fn fixed_record_at(bytes: &[u8], at: usize, kind: Kind, len: usize) -> Result<Content, Refusal>
-    ensures value { result ≡ or_broken at (fixed_record_at bytes.now at (kind_number kind) len) }
-    ensures within { IfOk result (λ c. (c.len ≡ len) × Lies bytes.now at c) }
+// The same of a kind whose content has a fixed length; None also where it has another.
+fn fixed_record_at(bytes: &[u8], at: usize, kind: Kind, len: usize) -> Option<Content>
+    ensures value { result ≡ fixed_record_at bytes.now at (kind_number kind) len }
+    ensures within { IfSome result (λ c. (c.len ≡ len) × Lies bytes.now at c) }
 {
     let content = record_at(bytes, at, kind)?;
     if content.len != len {
-        return Err(Refusal::PlanBroken(at));
+        return None;
     }
-    Ok(content)
+    Some(content)
 }
 
 // How many queries stand one after another from an offset, up to the most that a plan has.
@@ -112,7 +110,7 @@ fn count_queries(bytes: &[u8], first: usize) -> usize
 {
     let mut at = first;
     for count in 0..MOST_QUERIES {
-        let Ok(query) = fixed_record_at(bytes, at, Kind::Query, 8) else {
+        let Some(query) = fixed_record_at(bytes, at, Kind::Query, 8) else {
             return count;
         };
         at = query.next;
@@ -146,9 +144,11 @@ pub fn ask_query(bytes: &[u8], at: usize) -> Result<Query, Refusal>
 pub fn read(bytes: &[u8]) -> Result<Plan, Refusal>
     ensures { Reads bytes.now result }
 {
-    let floor = fixed_record_at(bytes, 0, Kind::Floor, 4)?;
-    let map = record_at(bytes, floor.next, Kind::Map)?;
-    let size = fixed_record_at(bytes, map.next, Kind::Size, 2)?;
+    let floor = fixed_record_at(bytes, 0, Kind::Floor, 4).ok_or(Refusal::PlanBroken(0))?;
+    let map = record_at(bytes, floor.next, Kind::Map).ok_or(Refusal::PlanBroken(floor.next))?;
+    let size = fixed_record_at(bytes, map.next, Kind::Size, 2).ok_or(Refusal::PlanBroken(
+        map.next,
+    ))?;
     let queries = count_queries(bytes, size.next);
     let end = size.next + 12 * queries;
     answers::refuse(Refusal::PlanBroken(end), end < bytes.len())?;

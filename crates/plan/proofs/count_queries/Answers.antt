@@ -7,7 +7,7 @@ pub returns-in_default-clause-value : goal.returns-in_default-clause-value
 returns-in_default-clause-value c = counting_stops _ _ _ _ c.loop-count.invariant (omega arith) c.in_default.ensures.value
 
 pub loop-count-preserved : goal.loop-count-preserved
-loop-count-preserved c = counting_goes_on _ _ _ _ c.loop-count.invariant (omega arith) _ c.in-Ok.ensures.value
+loop-count-preserved c = counting_goes_on _ _ _ _ c.loop-count.invariant (omega arith) _ c.in-Some.ensures.value
 
 pub returns-clause-value : goal.returns-clause-value
 returns-clause-value c = counting_full _ _ _ _ c.loop-count.invariant (omega arith)
