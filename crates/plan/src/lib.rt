@@ -73,10 +73,11 @@ fn number_at(bytes: &[u8], at: usize) -> usize
 
 // The record of a kind that begins at an offset; None where it is missing, cut off or of another kind.
 fn record_at(bytes: &[u8], at: usize, kind: Kind) -> Option<Content>
+    requires { at ≤ length bytes.now }
     ensures value { result ≡ record_at bytes.now at (kind_number kind) }
     ensures within { IfSome result (λ c. Lies bytes.now at c) }
 {
-    let left = bytes.len().saturating_sub(at);
+    let left = bytes.len() - at;
     if left < 4 {
         return None;
     }
@@ -93,6 +94,7 @@ fn record_at(bytes: &[u8], at: usize, kind: Kind) -> Option<Content>
 
 // The same of a kind whose content has a fixed length; None also where it has another.
 fn fixed_record_at(bytes: &[u8], at: usize, kind: Kind, len: usize) -> Option<Content>
+    requires { at ≤ length bytes.now }
     ensures value { result ≡ fixed_record_at bytes.now at (kind_number kind) len }
     ensures within { IfSome result (λ c. (c.len ≡ len) × Lies bytes.now at c) }
 {
@@ -105,6 +107,7 @@ fn fixed_record_at(bytes: &[u8], at: usize, kind: Kind, len: usize) -> Option<Co
 
 // How many queries stand one after another from an offset, up to the most that a plan has.
 fn count_queries(bytes: &[u8], first: usize) -> usize
+    requires { first ≤ length bytes.now }
     ensures value { result ≡ count_from bytes.now 64 first }
     ensures few { result ≤ 64 }
 {
