@@ -1,11 +1,21 @@
 -- The loop that counts queries: what holds at each turn.
 use mathlib.Core.Path.{◌≡◌, sym}
 use mathlib.Core.List.{List}
-use Prim.Native.Nat.{ℕ, suc, ◌+◌, ◌-◌, ◌<◌}
+use Prim.Native.Nat.{ℕ, zero, suc, ◌+◌, ◌-◌, ◌<◌, ◌≤◌}
 use native.Mathlib.Omega.{arith}
 use Rattle.std.specs.Prelude.{Option, Some, None}
 use Rattle.plan.specs.declared.Content.{Content}
 use Rattle.plan.specs.inner.Steps.{fixed_record_at, and_more, count_from}
+
+-- no more than are wanted are counted
+pub count_few : (bytes : List ℕ) (left at : ℕ) → count_from bytes left at ≤ left
+unfolding count_from
+count_few bytes zero at = omega arith
+count_few bytes (suc left) at = go (count_few bytes left) (fixed_record_at bytes at 4 8)
+  where
+    go : ((next : ℕ) → count_from bytes left next ≤ left) → (o : Option Content) → and_more (count_from bytes left) o ≤ suc left
+    go h (Some c) = omega (arith, h c.next)
+    go h None = omega arith
 
 -- those that are counted, and those that still are to be, are all
 abbrev pub Counting : List ℕ → ℕ → ℕ → ℕ → Type 0
