@@ -13,12 +13,12 @@ use Rattle.floor.specs.Lent.{floor_map}
 use Rattle.floor.specs.Refusals.{wrong_table}
 use Rattle.floor.specs.declared.Spot.{Spot}
 use Rattle.floor.specs.Tests.{places_tests, places_tested}
-use Rattle.floor.specs.inner.Ready.{Fitting, Standing, OpenCell, Ready}
+use Rattle.floor.specs.inner.Ready.{Fitting, Standing, OpenCell}
 use Rattle.floor.proofs.Tested.{fits, stands, largest_low}
 use Rattle.calls.specs.declared.ends.Goal.{Goal}
 use Rattle.calls.specs.declared.ends.Ends.{Ends}
 use Rattle.calls.specs.inner.Tested.{Aimed, Placed}
-use Rattle.calls.specs.Calls.{ToGoal, goal_tests, Route, route_tests}
+use Rattle.calls.specs.Calls.{ToGoal, to_goal, goal_tests, Route, route_tests}
 use Rattle.steps.proofs.Grid.{cell, cell_column, cell_row}
 use Rattle.steps.proofs.Leads.{floor}
 
@@ -70,3 +70,16 @@ ends_ready a entries e =
     let all = all_passed (route_tests a entries) e in
     let (from, to) = both_stand a.map a.start a.goal (search) in
     record { fitting = fits _ largest_low a.map entries (search) (search); from = from; to = to }
+
+-- the call to a route's goal
+abbrev pub its_goal : Route → ToGoal
+its_goal a = to_goal a.map a.goal
+
+-- what passed the tests of a call for a route passes those of a call to its goal
+pub route_goal : (a : Route) (entries : ℕ) → first_refusal (route_tests a entries) ≡ Ok tt
+    → first_refusal (goal_tests (its_goal a) entries) ≡ Ok tt
+unfolding route_tests goal_tests
+route_goal a entries e =
+    let all = all_passed (route_tests a entries) e in
+    let places = both_placed a.map a.start a.goal (search) in
+    passed_all (goal_tests (its_goal a) entries) (search)
