@@ -52,6 +52,8 @@ pub fn route_from_table(
     ensures { ReadsTable (route (given map.now) start goal) table.now legs.old result legs.new }
 {
     let ends = calls::ends_of(map, start, goal, table.len())?;
-    table::check(map, goal, table)?;
-    read_from(&ends, table, legs)
+    match table::check(map, goal, table) {
+        Err(wrong) => Err(wrong),
+        Ok(()) => read_from(&ends, table, legs),
+    }
 }
