@@ -107,7 +107,7 @@ pub fn compare(length: Length, other: Length) -> Said {
     Ok([usize::from(steps.is_shorter(others)), 0, 0, 0])
 }
 
-// The whole root of a number, rounded down, by its binary digits: another way than `isqrt`, which the library takes.
+// The whole root of a number, rounded down, by its binary digits; the library takes no root at all.
 fn root_of(square: u64) -> u32 {
     let mut root: u32 = 0;
     for digit in 0..32u32 {
