@@ -92,9 +92,9 @@ enum ways_heading {
 #define WAYS_QUERY_BYTES 12         /* bytes from one query's record to the next */
 
 /* The stack, in bytes, that a call takes at most; host/tests/stack.c measures it. */
-#define WAYS_FILL_STACK 73728       /* filling, finding a route; measured: 68,088 */
-#define WAYS_CHECK_STACK 4096       /* checking, a route from a table; measured: 2,008 */
-#define WAYS_LITTLE_STACK 1024      /* every other call; measured: 112 */
+#define WAYS_FILL_STACK 73728       /* filling, finding a route; measured: 68,184 */
+#define WAYS_CHECK_STACK 4096       /* checking, a route from a table; measured: 2,040 */
+#define WAYS_LITTLE_STACK 1024      /* every other call; measured: 88 */
 
 /* A table's entry is straight * 65536 + diagonal, the shortest length from its cell to the goal, or the mark:
  * blocked, or no way. */
