@@ -77,12 +77,15 @@ pub fn compare(a: Length, b: Length) -> Result<bool, Refusal>
     Ok(shorter(a, b))
 }
 
-// The whole number nearest to m√2: what the keys' ratio gives, rounded down, or one more. Not by the library's `isqrt`,
-// which takes many times as long.
+// The whole number nearest to m√2: what the keys' ratio gives, rounded down, or one more; of a straight way 0 at once.
+// Not by the library's `isqrt`, which takes many times as long.
 fn nearest(m: u64) -> u64
     requires { m ≤ 1000 * way_part }
     ensures { (Nearest m result) × (result ≤ 2 * m) }
 {
+    if m == 0 {
+        return 0;
+    }
     let below = m * DIAGONAL_KEY as u64 / STRAIGHT_KEY as u64;
     let odd = 2 * below + 1;
     if odd * odd < 8 * (m * m) {
