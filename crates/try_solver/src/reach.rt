@@ -18,7 +18,7 @@ impl Lengths {
     }
 
     // The least length over the steps from an open cell, the straight ones and then the diagonal ones: a loop over four
-    // headings is unrolled. One chain over all eight, by `min_by_key`, took half as long again.
+    // headings is unrolled. One chain over all eight, by `min_by_key`, takes nearly half as many instructions more.
     pub fn least_over(&self, grid: &Grid, cell: Cell) -> Option<Steps> {
         let mut least = None;
         for heading in Heading::STRAIGHT {
